@@ -1,0 +1,14 @@
+//! Instances: points with triangulations as inputs, and the validator that makes them from raw values.
+#![tactic(auto)]
+
+mod fault;
+mod instance;
+mod raw;
+mod triang;
+mod uid;
+
+pub use fault::{Bad, CheckFault};
+pub use instance::Instance;
+pub use raw::{PairList, PointList, RawInputs, RawInstance, RawPair};
+pub use triang::Triang;
+pub use uid::Uid;
