@@ -1,0 +1,43 @@
+-- The lines that the program prints: words and numbers with a space between, and a line feed at the end.
+use Rattle.std.specs.Prelude.{ℕ, List, [], ◌∷◌, ◌++◌, codes, decimal}
+use Rattle.std.specs.List.{join_with_byte}
+use Rattle.edge_table.specs.declared.edge.Edge.{Edge}
+use Rattle.tri_check.specs.declared.fault.Bad.{Bad}
+use Rattle.tri_check.specs.declared.fault.Bad.TheVariants.{TooManyPoints, TooManyInputs, TooManyPairs, CoordinateRange, TooFewPoints, RepeatedPoint, Collinear, NoInput, BadVertex, Loop, Blocked, Crossing, LonePoint, OpenSide}
+
+abbrev pub line : List (List ℕ) → List ℕ
+line words = join_with_byte 32 words ++ 10 ∷ []
+
+-- an edge: its ends with a dash between
+abbrev pub edge_text : Edge → List ℕ
+edge_text e = decimal e.0 ++ 45 ∷ decimal e.1
+
+abbrev pub words_line : List ℕ
+words_line = line (codes "words" ∷ codes "refused" ∷ [])
+
+abbrev pub valid_line : ℕ → ℕ → List ℕ
+valid_line points inputs = line (codes "valid" ∷ codes "points" ∷ decimal points ∷ codes "inputs" ∷ decimal inputs ∷ [])
+
+-- a fault of an instance: its name and its fields
+abbrev pub bad_words : Bad → List (List ℕ)
+bad_words (TooManyPoints n) = codes "TooManyPoints" ∷ decimal n ∷ []
+bad_words (TooManyInputs m) = codes "TooManyInputs" ∷ decimal m ∷ []
+bad_words (TooManyPairs c) = codes "TooManyPairs" ∷ decimal c ∷ []
+bad_words (CoordinateRange i) = codes "CoordinateRange" ∷ decimal i ∷ []
+bad_words (TooFewPoints n) = codes "TooFewPoints" ∷ decimal n ∷ []
+bad_words (RepeatedPoint i j) = codes "RepeatedPoint" ∷ decimal i ∷ decimal j ∷ []
+bad_words Collinear = codes "Collinear" ∷ []
+bad_words NoInput = codes "NoInput" ∷ []
+bad_words (BadVertex t p) = codes "BadVertex" ∷ decimal t ∷ decimal p ∷ []
+bad_words (Loop t p) = codes "Loop" ∷ decimal t ∷ decimal p ∷ []
+bad_words (Blocked t e q) = codes "Blocked" ∷ decimal t ∷ edge_text e ∷ decimal q ∷ []
+bad_words (Crossing t e f) = codes "Crossing" ∷ decimal t ∷ edge_text e ∷ edge_text f ∷ []
+bad_words (LonePoint t p) = codes "LonePoint" ∷ decimal t ∷ decimal p ∷ []
+bad_words (OpenSide t e) = codes "OpenSide" ∷ decimal t ∷ edge_text e ∷ []
+
+-- an instance is refused, for this fault
+abbrev pub instance_refused : List (List ℕ) → List (List ℕ)
+instance_refused fault = codes "refused" ∷ codes "instance" ∷ fault
+
+abbrev pub bad_line : Bad → List ℕ
+bad_line bad = line (instance_refused (bad_words bad))
