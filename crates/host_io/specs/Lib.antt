@@ -1,0 +1,4 @@
+pub mod Store
+pub mod Sink
+pub mod Memory
+pub mod Log
