@@ -1,0 +1,4 @@
+pub mod Nodes
+pub mod Ordered
+pub mod Parts
+pub mod Puts

@@ -1,0 +1,8 @@
+use Rattle.std.proofs.Common.{ℕ, List, MatchOption, Contains, ◌≡◌, subst}
+use Rattle.side_table.specs.declared.side.Side.{Side}
+use Rattle.side_table.specs.Sides.{HasSide}
+use Rattle.side_table.proofs.table.SideTable.from_point.Goals as goal
+
+pub returns : goal.returns
+returns c =
+    subst (λ (ss : List Side). MatchOption c.find_from.result ((v : ℕ) → ¬ HasSide ss c.args.u v) (λ s. Contains ss s × (s.from ≡ c.args.u))) c.self.view_is c.find_from.ensures
