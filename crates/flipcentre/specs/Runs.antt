@@ -35,7 +35,7 @@ SpellsValid bytes raw = Spells bytes raw × IsValid raw.points raw.inputs
 abbrev pub NamesInstanceFault : List ℕ → List ℕ → Type 0
 NamesInstanceFault bytes line =
     ((form : Form) × IsFirstFormFault bytes form × (line ≡ form_line form))
-    ⊎ ((raw : RawInstance) (bad : Bad) × Spells bytes raw × IsFirstFault raw.points raw.inputs bad × (line ≡ bad_line bad))
+    ⊎ ((raw : RawInstance) × (bad : Bad) × Spells bytes raw × IsFirstFault raw.points raw.inputs bad × (line ≡ bad_line bad))
 
 -- ---- the commands
 
@@ -79,7 +79,7 @@ Tells words held status old new = (line : List ℕ) × Says words held status li
 
 -- the run says some status, and the telling of its line was cut off
 abbrev pub TellsPart : List (List ℕ) → Option Held → Option (List ℕ) → Option (List ℕ) → Type 0
-TellsPart words held old new = (status : Status) (line : List ℕ) × Says words held status line × IsCutOff old new line
+TellsPart words held old new = (status : Status) × (line : List ℕ) × Says words held status line × IsCutOff old new line
 
 -- a file wasn't read: reading failed, or the file isn't held
 abbrev pub HasReadCause : List (List ℕ) → Option Held → ℕ → ℕ → Type 0
