@@ -65,9 +65,3 @@ Writes (Some old) new name bytes result = (later : Held) × (new ≡ Some later)
 abbrev pub CountsWrites : Option Held → ℕ → ℕ → Result (Unit {0}) StoreFail → Type 0
 CountsWrites None before now result = Unit {0}
 CountsWrites (Some held) before now result = IsErrOf result OutOfMemory → now ≡ before
-
--- what a store is seen as that tells nothing of what it holds
-pub record StoreCounts : Type 0 where
-  pub calls : ℕ
-  pub read_faults : ℕ
-  pub write_faults : ℕ

@@ -1,5 +1,8 @@
 // The files of the working folder as a store. What they hold isn't known.
-ghost use Rattle.std.specs.Prelude.{◌≡◌, ◌≤◌, None, IsErrOf, length};
+ghost use Rattle.std.specs.Prelude.{◌≡◌, ◌≤◌, None, IsTrue, IfOk, IsErrOf, length};
+ghost use Rattle.std.specs.Io.KnownBytes.{Appends};
+ghost use Rattle.host_io.specs.Store.{Counts, CountsReads, CountsWrites, HasCause, Reads, Writes};
+ghost use Rattle.host_io.specs.Folder.{after_read, after_write, IsAll};
 
 use crate::{Bytes, Store, StoreFail};
 use std::alloc::Global;
@@ -24,7 +27,7 @@ pub struct DirStore<R: Files + Drop> {
 }
 
 impl<R: Files + Drop> Model for DirStore<R> {
-    ghost use Rattle.host_io.specs.Store.{StoreCounts};
+    ghost use Rattle.host_io.specs.Folder.{StoreCounts};
 
     ghost Value = { StoreCounts };
 
@@ -56,9 +59,11 @@ impl<R: Files + Drop> DirStore<R> {
     }
 }
 
-// All bytes of a reader.
-fn read_all(alloc: Global, file: &mut impl Read) -> Result<Bytes, StoreFail>
-    ensures { IsErrOf result StoreFail.NotHeld → ⊥ }
+// All bytes of a reader, unless they are more than the limit.
+fn read_all<F: Read>(alloc: Global, file: &mut F) -> Result<Bytes, StoreFail>
+    ensures all { IfOk result (λ bytes. IsAll (F.remaining file.old) bytes) }
+    ensures limit { IfOk result (λ bytes. length bytes ≤ LONGEST) }
+    ensures not_held { IsErrOf result StoreFail.NotHeld → ⊥ }
 {
     let mut bytes = Bytes::make(alloc);
     let mut piece = [0u8; PIECE];
@@ -78,7 +83,9 @@ fn read_all(alloc: Global, file: &mut impl Read) -> Result<Bytes, StoreFail>
 }
 
 // Whether a writer took all bytes.
-fn write_all(file: &mut impl Write, bytes: &[u8]) -> bool {
+fn write_all<F: Write>(file: &mut F, bytes: &[u8]) -> bool
+    ensures { IsTrue result → Appends (F.contents file.old) (F.contents file.new) bytes.now }
+{
     let mut rest = bytes;
     while !rest.is_empty() {
         match file.write(rest) {
@@ -114,18 +121,33 @@ impl<R: Files + Drop> Store for DirStore<R> {
 
     ghost calls = { λ s. s.calls };
 
-    fn read(&mut self, alloc: Global, name: &str) -> Result<Bytes, StoreFail> {
+    fn read(&mut self, alloc: Global, name: &str) -> Result<Bytes, StoreFail>
+        ensures counts { self.new ≡ after_read self.old result }
+        ensures content { Reads None None name.now result }
+        ensures cause { HasCause self.old.read_faults self.new.read_faults result }
+        ensures unchanged { CountsReads None self.old.read_faults self.new.read_faults result }
+        ensures writes { self.new.write_faults ≡ self.old.write_faults }
+        ensures counted { Counts self.old.calls self.new.calls }
+    {
         self.calls = self.calls.saturating_add(1);
         match read_file(&self.rt, alloc, name) {
-            Err(StoreFail::Failed) => {
+            Ok(bytes) => Ok(bytes),
+            Err(StoreFail::OutOfMemory) => Err(StoreFail::OutOfMemory),
+            Err(_) => {
                 self.read_faults = self.read_faults.saturating_add(1);
                 Err(StoreFail::Failed)
             }
-            answer => answer,
         }
     }
 
-    fn write(&mut self, name: &str, bytes: &[u8]) -> Result<(), StoreFail> {
+    fn write(&mut self, name: &str, bytes: &[u8]) -> Result<(), StoreFail>
+        ensures counts { self.new ≡ after_write self.old result }
+        ensures content { Writes None None name.now bytes.now result }
+        ensures cause { HasCause self.old.write_faults self.new.write_faults result }
+        ensures unchanged { CountsWrites None self.old.write_faults self.new.write_faults result }
+        ensures reads { self.new.read_faults ≡ self.old.read_faults }
+        ensures counted { Counts self.old.calls self.new.calls }
+    {
         self.calls = self.calls.saturating_add(1);
         if write_file(&self.rt, name, bytes) {
             return Ok(());

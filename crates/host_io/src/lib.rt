@@ -18,3 +18,6 @@ pub use mem_store::MemStore;
 pub use sink::{Sink, put_all};
 pub use std_sink::StdSink;
 pub use store::Store;
+
+#[cfg(test)]
+mod tests;

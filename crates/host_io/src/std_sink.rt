@@ -1,5 +1,7 @@
 // Standard output as a sink. What it tells isn't known.
-ghost use Rattle.std.specs.Prelude.{◌≡◌, ◌≤◌, ◌<◌, [], None, Ok, length, IfOk};
+ghost use Rattle.std.specs.Prelude.{◌≡◌, ◌≤◌, ◌<◌, [], None, Ok, length, IfOk, if◌then◌else◌};
+ghost use Rattle.std.specs.Result.{is_err};
+ghost use Rattle.host_io.specs.Store.{one_more};
 ghost use Rattle.host_io.specs.Sink.{Puts, SinkHasCause};
 
 use crate::{Sink, SinkFail};
@@ -40,7 +42,14 @@ impl<R: Print + Drop> Sink for StdSink<R> {
 
     ghost faults = { λ s. s };
 
-    fn put(&mut self, piece: &[u8]) -> Result<usize, SinkFail> {
+    fn put(&mut self, piece: &[u8]) -> Result<usize, SinkFail>
+        ensures counts { self.new ≡ (if is_err result then one_more self.old else self.old) }
+        ensures content { Puts None None piece.now result }
+        ensures bound { IfOk result (λ n. n ≤ length piece.now) }
+        ensures some { IfOk result (λ n. 0 < length piece.now → 0 < n) }
+        ensures empty { piece.now ≡ [] → result ≡ Ok 0 }
+        ensures cause { SinkHasCause self.old self.new result }
+    {
         if piece.is_empty() {
             return Ok(0);
         }

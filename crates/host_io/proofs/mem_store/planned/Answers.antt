@@ -1,4 +1,4 @@
-use Rattle.std.proofs.Common.{◌≡◌, ◌∙◌, sym, ap, map, arith}
+use Rattle.std.proofs.Common.{◌∙◌, sym, ap}
 use Rattle.std.proofs.lemmas.List.{drop_all}
 use Rattle.host_io.proofs.Entries.{latest, planned_here, planned_there, get-planned_in}
 use Rattle.host_io.proofs.mem_store.planned.Goals as goal

@@ -1,4 +1,4 @@
-use Rattle.std.proofs.Common.{◌≡◌, ◌∙◌, refl, sym, ap, inr}
+use Rattle.std.proofs.Common.{◌∙◌, refl, ap, inr}
 use Rattle.std.specs.FinMap.{insert}
 use Rattle.std.proofs.lemmas.Result.{err_from_is_err_and}
 use Rattle.host_io.proofs.mem_store.MemStoreStore.write.Goals as goal
