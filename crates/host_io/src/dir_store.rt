@@ -1,5 +1,5 @@
 // The files of the working folder as a store. What they hold isn't known.
-ghost use Rattle.std.specs.Prelude.{◌≡◌, ◌≤◌, None, IsTrue, IfOk, IsErrOf, length};
+ghost use Rattle.std.specs.Prelude.{◌≡◌, ◌≤◌, None, IsTrue, IfOk, OnOk, IsErrOf, length};
 ghost use Rattle.std.specs.Io.KnownBytes.{Appends};
 ghost use Rattle.host_io.specs.Store.{Counts, CountsReads, CountsWrites, HasCause, Reads, Writes};
 ghost use Rattle.host_io.specs.Folder.{after_read, after_write, IsAll};
@@ -18,7 +18,8 @@ const PIECE: usize = 16_384;
 /// The files of the working folder, through the runtime that it keeps. It tells no content, and is seen
 /// as its counts of calls, read faults and write faults.
 ///
-/// A missing file is a fault, and so is one of more than 1,073,741,824 bytes.
+/// A missing file is a fault, and so is one of more than 1,073,741,824 bytes, to be read or written.
+/// Each call takes time linear in the length of its file.
 pub struct DirStore<R: Files + Drop> {
     rt: R,
     read_faults: u64,
@@ -97,7 +98,8 @@ fn write_all<F: Write>(file: &mut F, bytes: &[u8]) -> bool
 }
 
 fn read_file<R: Files>(rt: &R, alloc: Global, name: &str) -> Result<Bytes, StoreFail>
-    ensures { IsErrOf result StoreFail.NotHeld → ⊥ }
+    ensures limit { IfOk result (λ bytes. length bytes ≤ LONGEST) }
+    ensures not_held { IsErrOf result StoreFail.NotHeld → ⊥ }
 {
     match fs::open(rt, name) {
         Ok(mut file) => read_all(alloc, &mut file),
@@ -105,7 +107,13 @@ fn read_file<R: Files>(rt: &R, alloc: Global, name: &str) -> Result<Bytes, Store
     }
 }
 
-fn write_file<R: Files>(rt: &R, name: &str, bytes: &[u8]) -> bool {
+// Whether all bytes were written. More than the limit leave the file as it was.
+fn write_file<R: Files>(rt: &R, name: &str, bytes: &[u8]) -> bool
+    ensures { IsTrue result → length bytes.now ≤ LONGEST }
+{
+    if bytes.len() > LONGEST {
+        return false;
+    }
     match fs::create(rt, name) {
         Ok(mut file) => write_all(&mut file, bytes),
         Err(_) => false,
@@ -123,6 +131,7 @@ impl<R: Files + Drop> Store for DirStore<R> {
 
     fn read(&mut self, alloc: Global, name: &str) -> Result<Bytes, StoreFail>
         ensures counts { self.new ≡ after_read self.old result }
+        ensures limit { IfOk result (λ bytes. length bytes ≤ 1073741824) }
         ensures content { Reads None None name.now result }
         ensures cause { HasCause self.old.read_faults self.new.read_faults result }
         ensures unchanged { CountsReads None self.old.read_faults self.new.read_faults result }
@@ -142,6 +151,7 @@ impl<R: Files + Drop> Store for DirStore<R> {
 
     fn write(&mut self, name: &str, bytes: &[u8]) -> Result<(), StoreFail>
         ensures counts { self.new ≡ after_write self.old result }
+        ensures limit { OnOk result (length bytes.now ≤ 1073741824) }
         ensures content { Writes None None name.now bytes.now result }
         ensures cause { HasCause self.old.write_faults self.new.write_faults result }
         ensures unchanged { CountsWrites None self.old.write_faults self.new.write_faults result }
