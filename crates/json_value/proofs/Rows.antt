@@ -1,15 +1,18 @@
 -- Lists of values, seen one value after another.
-use Rattle.std.proofs.Common.{◌≡◌, ◌∙◌, sym, ap, refl, subst, ℕ, zero, suc, ◌+◌, ◌<◌, ◌≤◌, List, [], ◌∷◌, ◌++◌, length, map, get_or, take, drop, Some, None, arith, ℤ}
-use Rattle.std.specs.Prelude.{All, ◌↔◌}
+use Rattle.std.proofs.Common.{◌≡◌, ◌∙◌, sym, ap, refl, subst, ℕ, zero, suc, ◌+◌, ◌*◌, ◌<◌, ◌≤◌, List, [], ◌∷◌, ◌++◌, length, map, get_or, take, drop, Some, None, arith, ℤ}
+use Rattle.std.specs.Prelude.{All}
 use Rattle.std.specs.List.{AllZip, flat_map}
-use Rattle.std.proofs.lemmas.List.{map_more, take_all, drop_more, drop_all, get_or-map, length-map}
-use Rattle.std.proofs.lemmas.List.Elements.{All-push, All-nil, All-cons}
+use Rattle.std.proofs.lemmas.List.{map_more, take_all, drop_more, drop_all, get_or-map, length-map, length-append}
+use Rattle.std.proofs.lemmas.List.Elements.{All-push, All-nil, All-cons, All-append}
 use Rattle.serde_json.specs.Data.{Data}
 use Rattle.serde_json.specs.Find.{as_array}
 use Rattle.serde_json.specs.View.{view, items_of}
 use Rattle.serde_json.specs.declared.value.Value.{Value}
 use Rattle.tri_check.specs.declared.raw.RawPair.{RawPair}
-use Rattle.json_value.specs.Values.{IsWhole, IsNumber, whole_of, IsFirstOther, IsList, elements, IsPair, IsPairOf, IsListOf}
+use Rattle.json_value.specs.Values.{IsWhole, IsNumber, whole_of, IsFirstOther, IsList, elements, IsPair, IsPairOf, IsListOf, Lists, numbers_of_pairs}
+use Rattle.json_value.specs.Faults.{OnOther, IsMoved}
+use Rattle.json_value.specs.declared.text.NumberFault.{NumberFault}
+use Rattle.json_value.specs.declared.text.NumberFault.TheVariants.{NotInteger, OutOfMemory}
 use Rattle.json_value.proofs.Steps.{Reading, reading_more, reading_other, reading_all, same_list, elements_are}
 
 -- ---- what holds of each value
@@ -115,3 +118,39 @@ pair_whole d pair (a, b, e, ea, eb) = subst (All IsWhole) (sym (elements_are d (
 
 pub pair_length : (d : Data) (pair : RawPair) → IsPairOf d pair → 2 ≡ length (elements d)
 pair_length d pair (a, b, e, ea, eb) = sym (ap length (elements_are d (a ∷ b ∷ []) e))
+
+-- ---- lists of pairs
+pub pairs_whole : (es : List Data) (pairs : List RawPair) → AllZip IsPairOf es pairs → All IsWhole (flat_map elements es)
+pairs_whole [] pairs z = All-nil IsWhole
+pairs_whole (e ∷ es) [] z = absurd z
+pairs_whole (e ∷ es) (pair ∷ pairs) z = All-append IsWhole (elements e) (flat_map elements es) (pair_whole e pair z.0) (pairs_whole es pairs z.1)
+
+pub pairs_length : (es : List Data) (pairs : List RawPair) → AllZip IsPairOf es pairs → 2 * length es ≡ length (flat_map elements es)
+pairs_length [] pairs z = refl
+pairs_length (e ∷ es) [] z = absurd z
+pairs_length (e ∷ es) (pair ∷ pairs) z =
+    omega (arith, length-append (elements e) (flat_map elements es), pair_length e pair z.0, pairs_length es pairs z.1)
+
+pub numbers_are : (d : Data) (es : List Data) → IsList d es → numbers_of_pairs d ≡ flat_map elements es
+numbers_are d es e = ap (flat_map elements) (elements_are d es e)
+
+pub numbers_whole : (d : Data) (es : List Data) (pairs : List RawPair) → IsList d es → AllZip IsPairOf es pairs → All IsWhole (numbers_of_pairs d)
+numbers_whole d es pairs e z = subst (All IsWhole) (sym (numbers_are d es e)) (pairs_whole es pairs z)
+
+pub numbers_length : (d : Data) (es : List Data) (pairs : List RawPair) → IsList d es → AllZip IsPairOf es pairs → 2 * length es ≡ length (numbers_of_pairs d)
+numbers_length d es pairs e z = pairs_length es pairs z ∙ sym (ap length (numbers_are d es e))
+
+pub lists_are : (d : Data) (es : List Data) (pairs : List RawPair) → IsList d es → AllZip IsPairOf es pairs → Lists IsPairOf d pairs
+lists_are d es pairs e z = (es, e, z)
+
+pub not_list : (P : Data → Type 0) (d : Data) → None ≡ as_array d → IsListOf P d → ⊥
+not_list P d e (es, is, all) = let h : None ≡ Some (items_of es) = e ∙ is in cc
+
+-- the fault of a value, moved by what was read before it, is one of the whole
+pub moved_other : {X : Type 0} (R : Data → X → Type 0) (f : Data → List Data) (vs : List Value) (i : ℕ) (v : Value) (xs : List X) (place : ℕ) (e r : NumberFault)
+    → i < length vs → v ≡ get_or vs i v → IsMoved e place r → OnOther e (f (view v))
+    → Reading R f (map view vs) (map view (drop i vs)) xs place → OnOther r (flat_map f (map view vs))
+moved_other R f vs i v xs place e OutOfMemory lt is moved on r = tt
+moved_other R f vs i v xs place e (NotInteger p) lt is (k, fault, at) on r =
+    subst (IsFirstOther (flat_map f (map view vs))) (sym at)
+    (step_other R f vs i v xs place k lt is (subst (λ t. OnOther t (f (view v))) fault on) r)

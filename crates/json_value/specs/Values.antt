@@ -44,10 +44,6 @@ list_of (item d ds) = d ∷ list_of ds
 abbrev pub elements : Data → List Data
 elements d = option_map_or list_of (as_array d) []
 
--- the elements of the elements, in order
-abbrev pub elements_within : List Data → List Data
-elements_within ds = flat_map elements ds
-
 -- the first of these values that is no whole number has this place
 abbrev pub IsFirstOther : List Data → ℕ → Type 0
 IsFirstOther ds k = (before : List Data) × (d : Data) × (after : List Data) × (ds ≡ before ++ d ∷ after)
@@ -57,6 +53,14 @@ IsFirstOther ds k = (before : List Data) × (d : Data) × (after : List Data) ×
 -- the value is a list of two
 abbrev pub IsPair : Data → Type 0
 IsPair d = (a b : Data) × IsList d (a ∷ b ∷ [])
+
+-- the numbers of a list of pairs, one after another
+abbrev pub numbers_of_pairs : Data → List Data
+numbers_of_pairs d = flat_map elements (elements d)
+
+-- the numbers of a list of lists of pairs, one after another
+abbrev pub numbers_of_lists : Data → List Data
+numbers_of_lists d = flat_map numbers_of_pairs (elements d)
 
 -- the value is a list of two whole numbers, and they are those of the pair
 abbrev pub IsPairOf : Data → RawPair → Type 0

@@ -4,5 +4,5 @@
 mod pairs;
 mod text;
 
-pub use pairs::{are_pair_lists, are_pairs, pairs_in};
+pub use pairs::{are_pair_lists, are_pairs, pair_lists_in, pairs_in};
 pub use text::{NumberFault, ParseFault, numbers_in, parse};
