@@ -1,13 +1,8 @@
-// A library with one function.
+//! Instances as JSON texts.
 #![tactic(auto)]
 
-ghost use Rattle.std.specs.Prelude.{◌≡◌};
-ghost use Rattle.instance_json.specs.Echo.{echo_of};
+mod fault;
+mod read;
 
-// The `ensures` clause is the contract: what `echo` returns is `echo_of` of its argument, a definition
-// in `specs/Echo.antt`, which a caller's clause can cite too.
-pub fn echo(x: usize) -> usize
-    ensures { result ≡ echo_of x }
-{
-    x
-}
+pub use fault::{Form, InstanceFault, Member};
+pub use read::read_instance;

@@ -1,0 +1,260 @@
+-- Which fault is the first.
+use Rattle.std.proofs.Common.{◌≡◌, ◌≢◌, ◌∙◌, ◌⊎◌, inl, inr, sym, ap, refl, subst, ℕ, ◌+◌, ◌<◌, ◌≤◌, List, [], ◌∷◌, ◌++◌, length, get_or, Option, Some, None, arith}
+use Rattle.std.specs.Prelude.{All, ⊤, slice_get}
+use Rattle.std.specs.declared.cmp.Ordering.{Ordering}
+use Rattle.std.specs.declared.cmp.Ordering.TheVariants.{Less, Equal, Greater}
+use Rattle.std.specs.Ordering.{MatchOrdering, nat_cmp, ordering_then}
+use Rattle.std.specs.Cmp.Lexicographic.{slice_cmp}
+use Rattle.std.proofs.lemmas.Cmp.{ranked}
+use Rattle.std.proofs.lemmas.Bool.{cases_lt}
+use Rattle.std.proofs.lemmas.Option.{slice_get_within, get_or_from_slice_get, slice_get-get_or}
+use Rattle.std.proofs.lemmas.List.{get_or_append_left, length-append}
+use Rattle.std.proofs.Math.Seq.{get_or-append_seam}
+use Rattle.serde_json.specs.Data.{Data, null, boolean, number, string, array, object}
+use Rattle.serde_json.specs.Read.{read}
+use Rattle.serde_json.specs.Find.{get, as_object}
+use Rattle.json_value.specs.Values.{IsText, IsWhole, IsFirstOther, elements}
+use Rattle.instance_json.specs.Members.{name_of, number_of, IsAt, HasType, numbers_of}
+use Rattle.instance_json.specs.Forms.{HoldsIn, Holds, IsEarlier, IsFirstIn, IsFirstFault, IsCauseIn, IsCause, HasForm}
+use Rattle.instance_json.specs.declared.fault.Member.{Member}
+use Rattle.instance_json.specs.declared.fault.Member.TheVariants.{Uid, PointsX, PointsY, Triangulations}
+use Rattle.instance_json.specs.declared.fault.Form.{Form}
+use Rattle.instance_json.specs.declared.fault.Form.TheVariants.{NotJson, NotObject, Missing, WrongType, NotInteger, LengthMismatch}
+use Rattle.instance_json.specs.declared.fault.InstanceFault.{InstanceFault}
+use Rattle.instance_json.specs.declared.fault.InstanceFault.TheVariants as faults
+
+-- ---- order
+less_then : (P Q R : Type 0) (o r : Ordering) → MatchOrdering o P Q R → ordering_then o r ≡ Less → P ⊎ (Q × (r ≡ Less))
+less_then P Q R Less r m e = inl m
+less_then P Q R Equal r m e = inr (m, e)
+less_then P Q R Greater r m e = absurd (let h : Greater ≡ Less = e in cc)
+
+no_less : (o : Ordering) → o ≡ Equal → o ≡ Less → ⊥
+no_less o e f = let h : Equal ≡ Less = sym e ∙ f in cc
+
+pub less_first : (a b : ℕ) (as' bs : List ℕ) → slice_cmp nat_cmp (a ∷ as') (b ∷ bs) ≡ Less → (a < b) ⊎ ((a ≡ b) × (slice_cmp nat_cmp as' bs ≡ Less))
+less_first a b as' bs e = less_then (a < b) (a ≡ b) (b < a) (nat_cmp a b) (slice_cmp nat_cmp as' bs) (ranked a b (nat_cmp a b) refl) e
+
+pub less_one : (a b : ℕ) → slice_cmp nat_cmp (a ∷ []) (b ∷ []) ≡ Less → a < b
+less_one a b e = elim (less_first a b [] [] e) [ inl lt ↦ lt | inr h ↦ absurd (no_less Equal refl h.1) ]
+
+pub less_two : (a b p q : ℕ) → slice_cmp nat_cmp (a ∷ p ∷ []) (b ∷ q ∷ []) ≡ Less → (a < b) ⊎ ((a ≡ b) × (p < q))
+less_two a b p q e = elim (less_first a b (p ∷ []) (q ∷ []) e) [ inl lt ↦ inl lt | inr h ↦ inr (h.0, less_one p q h.1) ]
+
+not_less : Greater ≡ Less → ⊥
+not_less e = cc
+
+not_equal : Equal ≡ Less → ⊥
+not_equal e = cc
+
+-- ---- members
+pub same_member : (k m : Member) → number_of k ≡ number_of m → k ≡ m
+same_member Uid Uid e = refl
+same_member Uid PointsX e = absurd (omega (arith, e))
+same_member Uid PointsY e = absurd (omega (arith, e))
+same_member Uid Triangulations e = absurd (omega (arith, e))
+same_member PointsX Uid e = absurd (omega (arith, e))
+same_member PointsX PointsX e = refl
+same_member PointsX PointsY e = absurd (omega (arith, e))
+same_member PointsX Triangulations e = absurd (omega (arith, e))
+same_member PointsY Uid e = absurd (omega (arith, e))
+same_member PointsY PointsX e = absurd (omega (arith, e))
+same_member PointsY PointsY e = refl
+same_member PointsY Triangulations e = absurd (omega (arith, e))
+same_member Triangulations Uid e = absurd (omega (arith, e))
+same_member Triangulations PointsX e = absurd (omega (arith, e))
+same_member Triangulations PointsY e = absurd (omega (arith, e))
+same_member Triangulations Triangulations e = refl
+
+pub few_members : (k : Member) → number_of k < 4
+few_members Uid = omega arith
+few_members PointsX = omega arith
+few_members PointsY = omega arith
+few_members Triangulations = omega arith
+
+-- each member before this number has a value of which P holds
+abbrev pub Below : Data → (Member → Data → Type 0) → ℕ → Type 0
+Below d P n = (k : Member) → number_of k < n → (v : Data) × IsAt d k v × P k v
+
+pub below_none : (d : Data) (P : Member → Data → Type 0) → Below d P 0
+below_none d P k lt = absurd (omega (arith, lt))
+
+pub below_more : (d : Data) (P : Member → Data → Type 0) (m : Member) (n : ℕ) → n ≡ number_of m + 1 → (v : Data) → IsAt d m v → P m v → Below d P (number_of m) → Below d P n
+below_more d P m n is v at p below k lt =
+    elim (cases_lt (number_of k) (number_of m)) [
+      inl less ↦ below k less |
+      inr more ↦ let same : number_of k ≡ number_of m = omega (arith, lt, more, is) in
+        subst (λ t. (v : Data) × IsAt d t v × P t v) (sym (same_member k m same)) (v, at, p) ]
+
+-- what the members are known to have, step by step
+abbrev pub IsThere : Member → Data → Type 0
+IsThere m v = ⊤
+
+abbrev pub IsTyped : Member → Data → Type 0
+IsTyped m v = HasType m v
+
+abbrev pub IsNumbered : Member → Data → Type 0
+IsNumbered m v = All IsWhole (numbers_of m v)
+
+all_below : (d : Data) (P : Member → Data → Type 0) → Below d P 4 → (k : Member) → (v : Data) × IsAt d k v × P k v
+all_below d P below k = below k (few_members k)
+
+same_at : (d : Data) (m : Member) (v w : Data) → IsAt d m v → IsAt d m w → v ≡ w
+same_at d m v w e f = let h : Some v ≡ Some w = sym e ∙ f in cc
+
+-- ---- a fault that isn't there
+not_missing : (d : Data) (k : Member) (v : Data) → IsAt d k v → ¬ HoldsIn d (Missing k)
+not_missing d k v e f = let h : Some v ≡ None = sym e ∙ f in cc
+
+not_wrong : (d : Data) (k : Member) (v : Data) → IsAt d k v → HasType k v → ¬ HoldsIn d (WrongType k)
+not_wrong d k v e t (w, at, no') = no' (subst (HasType k) (same_at d k v w e at) t)
+
+whole_at : (ds : List Data) (q : ℕ) (e : Data) → All IsWhole ds → slice_get ds q ≡ Some e → IsWhole e
+whole_at ds q e all is = subst IsWhole (get_or_from_slice_get ds q e e is) (all q e (slice_get_within ds q e is))
+
+not_other : (d : Data) (k : Member) (q : ℕ) (v : Data) → IsAt d k v → All IsWhole (numbers_of k v) → ¬ HoldsIn d (NotInteger k q)
+not_other d k q v e all (w, x, at, is, no') =
+    no' (whole_at (numbers_of k w) q x (subst (λ t. All IsWhole (numbers_of k t)) (same_at d k v w e at) all) is)
+
+is_object : (d : Data) (k : Member) (v : Data) → IsAt d k v → ¬ HoldsIn d NotObject
+is_object null k v e f = let h : None ≡ Some v = e in cc
+is_object (boolean b) k v e f = let h : None ≡ Some v = e in cc
+is_object (number n) k v e f = let h : None ≡ Some v = e in cc
+is_object (string s) k v e f = let h : None ≡ Some v = e in cc
+is_object (array ds) k v e f = let h : None ≡ Some v = e in cc
+is_object (object ms) k v e f = let h : Some ms ≡ None = f in cc
+
+-- ---- the first number that isn't whole
+other_at : (ds : List Data) (p : ℕ) → IsFirstOther ds p → (e : Data) × (slice_get ds p ≡ Some e) × ¬ IsWhole e
+other_at ds p (before, e, after, is, all, other, at) =
+    let there : length before < length (before ++ e ∷ after) = omega (arith, length-append before (e ∷ after)) in
+    (e, rw (is, at) (slice_get-get_or (before ++ e ∷ after) (length before) e there ∙ ap (λ t. Some t) (get_or-append_seam before e after e)), other)
+
+other_after : (ds : List Data) (p q : ℕ) (e : Data) → IsFirstOther ds p → q < p → slice_get ds q ≡ Some e → IsWhole e
+other_after ds p q e (before, x, after, is, all, other, at) lt found =
+    let within : q < length before = omega (arith, lt, at) in
+    let here : get_or (before ++ x ∷ after) q e ≡ e = get_or_from_slice_get (before ++ x ∷ after) q e e (subst (λ t. slice_get t q ≡ Some e) is found) in
+    subst IsWhole (sym (get_or_append_left before (x ∷ after) e q within) ∙ here) (all q e within)
+
+-- ---- each kind of fault as the first
+pub first_object : (d : Data) → as_object d ≡ None → IsFirstIn d NotObject
+first_object d e = record { holds = e; first = earlier }
+  where
+    earlier : (g : Form) → IsEarlier g NotObject → ¬ HoldsIn d g
+    earlier NotJson e h = h
+    earlier NotObject e h = not_equal e
+    earlier (Missing k) e h = not_less e
+    earlier (WrongType k) e h = not_less e
+    earlier (NotInteger k q) e h = not_less e
+    earlier (LengthMismatch x y) e h = not_less e
+
+pub first_missing : (d : Data) (m : Member) → ¬ HoldsIn d NotObject → Below d IsThere (number_of m) → get (name_of m) d ≡ None → IsFirstIn d (Missing m)
+first_missing d m is_one below e = record { holds = e; first = earlier }
+  where
+    earlier : (g : Form) → IsEarlier g (Missing m) → ¬ HoldsIn d g
+    earlier NotJson e h = h
+    earlier NotObject e h = is_one h
+    earlier (Missing k) e h = let b = below k (less_one (number_of k) (number_of m) e) in not_missing d k b.0 b.1 h
+    earlier (WrongType k) e h = not_less e
+    earlier (NotInteger k q) e h = not_less e
+    earlier (LengthMismatch x y) e h = not_less e
+
+pub first_wrong : (d : Data) (m : Member) (v : Data) → Below d IsThere 4 → Below d IsTyped (number_of m) → IsAt d m v → ¬ HasType m v → IsFirstIn d (WrongType m)
+first_wrong d m v there below at wrong = record { holds = (v, at, wrong); first = earlier }
+  where
+    earlier : (g : Form) → IsEarlier g (WrongType m) → ¬ HoldsIn d g
+    earlier NotJson e h = h
+    earlier NotObject e h = is_object d m v at h
+    earlier (Missing k) e h = let b = all_below d IsThere there k in not_missing d k b.0 b.1 h
+    earlier (WrongType k) e h = let b = below k (less_one (number_of k) (number_of m) e) in not_wrong d k b.0 b.1 b.2 h
+    earlier (NotInteger k q) e h = not_less e
+    earlier (LengthMismatch x y) e h = not_less e
+
+pub first_other : (d : Data) (m : Member) (p : ℕ) (v : Data) → Below d IsTyped 4 → Below d IsNumbered (number_of m) → IsAt d m v → IsFirstOther (numbers_of m v) p → IsFirstIn d (NotInteger m p)
+first_other d m p v typed below at other = record { holds = holds; first = earlier }
+  where
+    holds : HoldsIn d (NotInteger m p)
+    holds = let o = other_at (numbers_of m v) p other in (v, o.0, at, o.1, o.2)
+
+    before : (q : ℕ) → q < p → ¬ HoldsIn d (NotInteger m q)
+    before q lt (w, e, at', is, no') =
+        no' (other_after (numbers_of m v) p q e other lt (subst (λ t. slice_get (numbers_of m t) q ≡ Some e) (same_at d m w v at' at) is))
+
+    earlier : (g : Form) → IsEarlier g (NotInteger m p) → ¬ HoldsIn d g
+    earlier NotJson e h = h
+    earlier NotObject e h = is_object d m v at h
+    earlier (Missing k) e h = let b = all_below d IsTyped typed k in not_missing d k b.0 b.1 h
+    earlier (WrongType k) e h = let b = all_below d IsTyped typed k in not_wrong d k b.0 b.1 b.2 h
+    earlier (NotInteger k q) e h =
+        elim (less_two (number_of k) (number_of m) q p e) [
+          inl lt ↦ let b = below k lt in not_other d k q b.0 b.1 b.2 h |
+          inr same ↦ before q same.1 (subst (λ t. HoldsIn d (NotInteger t q)) (same_member k m same.0) h) ]
+    earlier (LengthMismatch x y) e h = not_less e
+
+pub first_mismatch : (d xs ys : Data) (x y : ℕ) → Below d IsTyped 4 → Below d IsNumbered 4 → IsAt d PointsX xs → IsAt d PointsY ys
+    → x ≡ length (elements xs) → y ≡ length (elements ys) → x ≢ y → IsFirstIn d (LengthMismatch x y)
+first_mismatch d xs ys x y typed numbered ax ay ex ey ne = record { holds = (xs, ys, ax, ay, ex, ey, ne); first = earlier }
+  where
+    earlier : (g : Form) → IsEarlier g (LengthMismatch x y) → ¬ HoldsIn d g
+    earlier NotJson e h = h
+    earlier NotObject e h = is_object d PointsX xs ax h
+    earlier (Missing k) e h = let b = all_below d IsTyped typed k in not_missing d k b.0 b.1 h
+    earlier (WrongType k) e h = let b = all_below d IsTyped typed k in not_wrong d k b.0 b.1 b.2 h
+    earlier (NotInteger k q) e h = let b = all_below d IsNumbered numbered k in not_other d k q b.0 b.1 b.2 h
+    earlier (LengthMismatch x' y') e h = not_equal e
+
+pub no_fault : (d xs ys : Data) → Below d IsTyped 4 → Below d IsNumbered 4 → IsAt d PointsX xs → IsAt d PointsY ys
+    → length (elements xs) ≡ length (elements ys) → (f : Form) → ¬ HoldsIn d f
+no_fault d xs ys typed numbered ax ay same NotJson h = h
+no_fault d xs ys typed numbered ax ay same NotObject h = is_object d PointsX xs ax h
+no_fault d xs ys typed numbered ax ay same (Missing k) h = let b = all_below d IsTyped typed k in not_missing d k b.0 b.1 h
+no_fault d xs ys typed numbered ax ay same (WrongType k) h = let b = all_below d IsTyped typed k in not_wrong d k b.0 b.1 b.2 h
+no_fault d xs ys typed numbered ax ay same (NotInteger k q) h = let b = all_below d IsNumbered numbered k in not_other d k q b.0 b.1 b.2 h
+no_fault d xs ys typed numbered ax ay same (LengthMismatch x y) (v, w, av, aw, ex, ey, ne) =
+    let vx : length (elements v) ≡ length (elements xs) = ap (λ t. length (elements t)) (same_at d PointsX v xs av ax) in
+    let wy : length (elements w) ≡ length (elements ys) = ap (λ t. length (elements t)) (same_at d PointsY w ys aw ay) in
+    ne (ex ∙ vx ∙ same ∙ sym wy ∙ sym ey)
+
+-- ---- from the value of a text to its bytes
+same_text : (bytes : List ℕ) (c d : Data) → IsText bytes c → IsText bytes d → c ≡ d
+same_text bytes c d e f = let h : Some c ≡ Some d = sym e.1 ∙ f.1 in cc
+
+not_held : (bytes : List ℕ) (d : Data) → IsText bytes d → (f : Form) → ¬ HoldsIn d f → ¬ Holds bytes f
+not_held bytes d t NotJson h none = none d t
+not_held bytes d t NotObject h (c, s, held) = h (subst (λ t. HoldsIn t NotObject) (same_text bytes c d s t) held)
+not_held bytes d t (Missing k) h (c, s, held) = h (subst (λ t. HoldsIn t (Missing k)) (same_text bytes c d s t) held)
+not_held bytes d t (WrongType k) h (c, s, held) = h (subst (λ t. HoldsIn t (WrongType k)) (same_text bytes c d s t) held)
+not_held bytes d t (NotInteger k q) h (c, s, held) = h (subst (λ t. HoldsIn t (NotInteger k q)) (same_text bytes c d s t) held)
+not_held bytes d t (LengthMismatch x y) h (c, s, held) = h (subst (λ t. HoldsIn t (LengthMismatch x y)) (same_text bytes c d s t) held)
+
+held_by : (bytes : List ℕ) (d : Data) → IsText bytes d → (f : Form) → HoldsIn d f → Holds bytes f
+held_by bytes d t NotJson h = absurd h
+held_by bytes d t NotObject h = (d, t, h)
+held_by bytes d t (Missing k) h = (d, t, h)
+held_by bytes d t (WrongType k) h = (d, t, h)
+held_by bytes d t (NotInteger k q) h = (d, t, h)
+held_by bytes d t (LengthMismatch x y) h = (d, t, h)
+
+pub first_of_text : (bytes : List ℕ) (d : Data) → IsText bytes d → (f : Form) → IsFirstIn d f → IsFirstFault bytes f
+first_of_text bytes d t f r = record {
+  holds = held_by bytes d t f r.holds;
+  first = λ g e. not_held bytes d t g (r.first g e);
+}
+
+pub cause_of_text : (bytes : List ℕ) (d : Data) → IsText bytes d → (e : InstanceFault) → IsCauseIn d e → IsCause bytes e
+cause_of_text bytes d t (faults.Form f) r = first_of_text bytes d t f r
+cause_of_text bytes d t faults.OutOfMemory r = tt
+
+pub first_not_json : (bytes : List ℕ) → ((d : Data) → ¬ IsText bytes d) → IsFirstFault bytes NotJson
+first_not_json bytes none = record { holds = none; first = earlier }
+  where
+    earlier : (g : Form) → IsEarlier g NotJson → ¬ Holds bytes g
+    earlier NotJson e h = not_equal e
+    earlier NotObject e h = not_less e
+    earlier (Missing k) e h = not_less e
+    earlier (WrongType k) e h = not_less e
+    earlier (NotInteger k q) e h = not_less e
+    earlier (LengthMismatch x y) e h = not_less e
+
+pub form_of_text : (bytes : List ℕ) (d : Data) → IsText bytes d → ((f : Form) → ¬ HoldsIn d f) → HasForm bytes
+form_of_text bytes d t none f = not_held bytes d t f (none f)
