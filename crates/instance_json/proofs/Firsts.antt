@@ -1,5 +1,5 @@
 -- Which fault is the first.
-use Rattle.std.proofs.Common.{◌≡◌, ◌≢◌, ◌∙◌, ◌⊎◌, inl, inr, sym, ap, refl, subst, ℕ, ◌+◌, ◌<◌, ◌≤◌, List, [], ◌∷◌, ◌++◌, length, get_or, Option, Some, None, arith}
+use Rattle.std.proofs.Common.{◌≡◌, ◌≢◌, ◌∙◌, ◌⊎◌, inl, inr, sym, ap, refl, subst, ℕ, ◌+◌, ◌<◌, List, [], ◌∷◌, ◌++◌, length, get_or, Some, None, arith}
 use Rattle.std.specs.Prelude.{All, ⊤, slice_get}
 use Rattle.std.specs.declared.cmp.Ordering.{Ordering}
 use Rattle.std.specs.declared.cmp.Ordering.TheVariants.{Less, Equal, Greater}
@@ -11,11 +11,10 @@ use Rattle.std.proofs.lemmas.Option.{slice_get_within, get_or_from_slice_get, sl
 use Rattle.std.proofs.lemmas.List.{get_or_append_left, length-append}
 use Rattle.std.proofs.Math.Seq.{get_or-append_seam}
 use Rattle.serde_json.specs.Data.{Data, null, boolean, number, string, array, object}
-use Rattle.serde_json.specs.Read.{read}
 use Rattle.serde_json.specs.Find.{get, as_object}
 use Rattle.json_value.specs.Values.{IsText, IsWhole, IsFirstOther, elements}
 use Rattle.instance_json.specs.Members.{name_of, number_of, IsAt, HasType, numbers_of}
-use Rattle.instance_json.specs.Forms.{HoldsIn, Holds, IsEarlier, IsFirstIn, IsFirstFault, IsCauseIn, IsCause, HasForm}
+use Rattle.instance_json.specs.Faults.{HoldsIn, Holds, IsEarlier, IsFirstIn, IsFirstFormFault, OnFaultIn, OnFault, HasForm}
 use Rattle.instance_json.specs.declared.fault.Member.{Member}
 use Rattle.instance_json.specs.declared.fault.Member.TheVariants.{Uid, PointsX, PointsY, Triangulations}
 use Rattle.instance_json.specs.declared.fault.Form.{Form}
@@ -82,9 +81,10 @@ below_none d P k lt = absurd (omega (arith, lt))
 pub below_more : (d : Data) (P : Member → Data → Type 0) (m : Member) (n : ℕ) → n ≡ number_of m + 1 → (v : Data) → IsAt d m v → P m v → Below d P (number_of m) → Below d P n
 below_more d P m n is v at p below k lt =
     elim (cases_lt (number_of k) (number_of m)) [
-      inl less ↦ below k less |
-      inr more ↦ let same : number_of k ≡ number_of m = omega (arith, lt, more, is) in
-        subst (λ t. (v : Data) × IsAt d t v × P t v) (sym (same_member k m same)) (v, at, p) ]
+      | inl less ↦ below k less
+      | inr more ↦ let same : number_of k ≡ number_of m = omega (arith, lt, more, is) in
+          subst (λ t. (v : Data) × IsAt d t v × P t v) (sym (same_member k m same)) (v, at, p)
+    ]
 
 -- what the members are known to have, step by step
 abbrev pub IsThere : Member → Data → Type 0
@@ -187,8 +187,9 @@ first_other d m p v typed below at other = record { holds = holds; first = earli
     earlier (WrongType k) e h = let b = all_below d IsTyped typed k in not_wrong d k b.0 b.1 b.2 h
     earlier (NotInteger k q) e h =
         elim (less_two (number_of k) (number_of m) q p e) [
-          inl lt ↦ let b = below k lt in not_other d k q b.0 b.1 b.2 h |
-          inr same ↦ before q same.1 (subst (λ t. HoldsIn d (NotInteger t q)) (same_member k m same.0) h) ]
+          | inl lt ↦ let b = below k lt in not_other d k q b.0 b.1 b.2 h
+          | inr same ↦ before q same.1 (subst (λ t. HoldsIn d (NotInteger t q)) (same_member k m same.0) h)
+        ]
     earlier (LengthMismatch x y) e h = not_less e
 
 pub first_mismatch : (d xs ys : Data) (x y : ℕ) → Below d IsTyped 4 → Below d IsNumbered 4 → IsAt d PointsX xs → IsAt d PointsY ys
@@ -235,17 +236,17 @@ held_by bytes d t (WrongType k) h = (d, t, h)
 held_by bytes d t (NotInteger k q) h = (d, t, h)
 held_by bytes d t (LengthMismatch x y) h = (d, t, h)
 
-pub first_of_text : (bytes : List ℕ) (d : Data) → IsText bytes d → (f : Form) → IsFirstIn d f → IsFirstFault bytes f
+pub first_of_text : (bytes : List ℕ) (d : Data) → IsText bytes d → (f : Form) → IsFirstIn d f → IsFirstFormFault bytes f
 first_of_text bytes d t f r = record {
   holds = held_by bytes d t f r.holds;
   first = λ g e. not_held bytes d t g (r.first g e);
 }
 
-pub cause_of_text : (bytes : List ℕ) (d : Data) → IsText bytes d → (e : InstanceFault) → IsCauseIn d e → IsCause bytes e
+pub cause_of_text : (bytes : List ℕ) (d : Data) → IsText bytes d → (e : InstanceFault) → OnFaultIn d e → OnFault bytes e
 cause_of_text bytes d t (faults.Form f) r = first_of_text bytes d t f r
 cause_of_text bytes d t faults.OutOfMemory r = tt
 
-pub first_not_json : (bytes : List ℕ) → ((d : Data) → ¬ IsText bytes d) → IsFirstFault bytes NotJson
+pub first_not_json : (bytes : List ℕ) → ((d : Data) → ¬ IsText bytes d) → IsFirstFormFault bytes NotJson
 first_not_json bytes none = record { holds = none; first = earlier }
   where
     earlier : (g : Form) → IsEarlier g NotJson → ¬ Holds bytes g

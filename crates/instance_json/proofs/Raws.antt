@@ -1,24 +1,23 @@
 -- What the values at the members say of the whole text.
-use Rattle.std.proofs.Common.{◌≡◌, ◌≢◌, ◌∙◌, sym, ap, refl, subst, ℕ, List, [], ◌∷◌, length, map, Some, None, arith, ℤ}
-use Rattle.std.specs.Prelude.{All, ⊤}
+use Rattle.std.proofs.Common.{◌≡◌, ◌≢◌, ◌∙◌, sym, ap, refl, subst, ℕ, List, [], ◌∷◌, length, Some, None, arith, ℤ}
+use Rattle.std.specs.Prelude.{All}
 use Rattle.std.specs.List.{AllZip, flat_map}
 use Rattle.std.proofs.lemmas.List.{length-map}
 use Rattle.std.proofs.lemmas.List.Elements.{All-append, All-nil, All-cons}
 use Rattle.serde_json.specs.Data.{Data}
 use Rattle.serde_json.specs.Find.{as_array, as_str}
 use Rattle.serde_json.specs.View.{items_of}
-use Rattle.geo_orient.specs.declared.Point.{Point}
 use Rattle.tri_check.specs.declared.raw.RawPair.{RawPair}
 use Rattle.tri_check.specs.declared.raw.RawInstance.{RawInstance}
-use Rattle.json_value.specs.Values.{IsText, IsWhole, IsNumber, IsFirstOther, IsList, IsListOf, Lists, IsPair, IsPairOf, elements, numbers_of_pairs, numbers_of_lists}
+use Rattle.json_value.specs.Values.{IsWhole, IsNumber, IsFirstOther, IsList, IsListOf, Lists, IsPair, IsPairOf, elements, numbers_of_pairs, numbers_of_lists}
 use Rattle.json_value.proofs.Steps.{elements_are}
 use Rattle.json_value.proofs.Rows.{numbers_whole}
-use Rattle.instance_json.specs.Members.{IsAt, HasType, numbers_of}
-use Rattle.instance_json.specs.Forms.{HoldsIn, IsFirstIn, IsCauseIn, IsOther}
-use Rattle.instance_json.specs.Values.{HasMembers, HasLists, IsRaw}
+use Rattle.instance_json.specs.Members.{IsAt, HasType}
+use Rattle.instance_json.specs.Faults.{HoldsIn, IsFirstIn, OnFaultIn, IsOther}
+use Rattle.instance_json.specs.Forms.{HasMembers, HasLists, IsRaw}
 use Rattle.instance_json.specs.declared.fault.Member.TheVariants.{Uid, PointsX, PointsY, Triangulations}
 use Rattle.instance_json.specs.declared.fault.Form.{Form}
-use Rattle.instance_json.specs.declared.fault.Form.TheVariants.{WrongType, NotInteger, LengthMismatch}
+use Rattle.instance_json.specs.declared.fault.Form.TheVariants.{WrongType, LengthMismatch}
 use Rattle.instance_json.specs.declared.fault.InstanceFault.{InstanceFault}
 use Rattle.instance_json.specs.declared.fault.InstanceFault.TheVariants as faults
 use Rattle.instance_json.proofs.Firsts.{Below, below_none, below_more, IsThere, IsTyped, IsNumbered, first_wrong, first_other, first_mismatch, no_fault}
@@ -112,21 +111,21 @@ pub has_lists : (d u x y t : Data) (s : List ℕ) (es fs gs : List Data) → Has
 has_lists d u x y t s es fs gs m e l k j = record { uid = (u, m.uid, e); xs = (x, m.xs, l); ys = (y, m.ys, k); inputs = (t, m.inputs, j) }
 
 -- ---- numbers that aren't whole
-pub other_xs : (d : Data) (u : List ℕ) (x y t : List Data) (e : InstanceFault) → HasLists d u x y t → All (IsListOf IsPair) t → IsOther PointsX x e → IsCauseIn d e
+pub other_xs : (d : Data) (u : List ℕ) (x y t : List Data) (e : InstanceFault) → HasLists d u x y t → All (IsListOf IsPair) t → IsOther PointsX x e → OnFaultIn d e
 other_xs d u x y t (faults.Form f) h pairs (place, is, other) =
     subst (IsFirstIn d) (sym is)
     (first_other d PointsX place h.xs.0 (typed d u x y t h pairs) (one_numbered d u x y t h) h.xs.1 (subst (λ ds. IsFirstOther ds place) (sym (elements_are h.xs.0 x h.xs.2)) other))
 other_xs d u x y t faults.OutOfMemory h pairs o = tt
 
 pub other_ys : (d : Data) (u : List ℕ) (x y t : List Data) (xs : List ℤ) (e : InstanceFault) → HasLists d u x y t → All (IsListOf IsPair) t → AllZip IsNumber x xs
-    → IsOther PointsY y e → IsCauseIn d e
+    → IsOther PointsY y e → OnFaultIn d e
 other_ys d u x y t xs (faults.Form f) h pairs zx (place, is, other) =
     subst (IsFirstIn d) (sym is)
     (first_other d PointsY place h.ys.0 (typed d u x y t h pairs) (two_numbered d u x y t xs h zx) h.ys.1 (subst (λ ds. IsFirstOther ds place) (sym (elements_are h.ys.0 y h.ys.2)) other))
 other_ys d u x y t xs faults.OutOfMemory h pairs zx o = tt
 
 pub other_inputs : (d : Data) (u : List ℕ) (x y t : List Data) (xs ys : List ℤ) (e : InstanceFault) → HasLists d u x y t → All (IsListOf IsPair) t → AllZip IsNumber x xs → AllZip IsNumber y ys
-    → IsOther Triangulations (flat_map numbers_of_pairs t) e → IsCauseIn d e
+    → IsOther Triangulations (flat_map numbers_of_pairs t) e → OnFaultIn d e
 other_inputs d u x y t xs ys (faults.Form f) h pairs zx zy (place, is, other) =
     subst (IsFirstIn d) (sym is)
     (first_other d Triangulations place h.inputs.0 (typed d u x y t h pairs) (three_numbered d u x y t xs ys h zx zy) h.inputs.1

@@ -1,71 +1,35 @@
--- What keeps a text from being an instance, and which fault is the first.
-use Rattle.std.specs.Prelude.{◌≡◌, ◌≢◌, ⊤, ℕ, List, [], ◌∷◌, length, Some, None, slice_get}
-use Rattle.std.specs.declared.cmp.Ordering.TheVariants.{Less}
-use Rattle.std.specs.Ordering.{nat_cmp}
-use Rattle.std.specs.Cmp.Lexicographic.{slice_cmp}
+-- The raw instance that a text spells.
+use Rattle.std.specs.Prelude.{◌≡◌, ℕ, List, map, Some}
 use Rattle.serde_json.specs.Data.{Data}
-use Rattle.serde_json.specs.Find.{get, as_object}
-use Rattle.json_value.specs.Values.{IsText, IsWhole, IsFirstOther, elements}
-use Rattle.instance_json.specs.Members.{name_of, number_of, IsAt, HasType, numbers_of}
-use Rattle.instance_json.specs.declared.fault.Member.{Member}
-use Rattle.instance_json.specs.declared.fault.Member.TheVariants.{PointsX, PointsY}
-use Rattle.instance_json.specs.declared.fault.Form.{Form}
-use Rattle.instance_json.specs.declared.fault.Form.TheVariants.{NotJson, NotObject, Missing, WrongType, NotInteger, LengthMismatch}
-use Rattle.instance_json.specs.declared.fault.InstanceFault.{InstanceFault}
-use Rattle.instance_json.specs.declared.fault.InstanceFault.TheVariants as faults
+use Rattle.serde_json.specs.Find.{as_str}
+use Rattle.tri_check.specs.declared.raw.RawInstance.{RawInstance}
+use Rattle.json_value.specs.Values.{IsText, IsNumber, IsList, IsPairOf, Lists}
+use Rattle.instance_json.specs.Members.{IsAt}
+use Rattle.instance_json.specs.declared.fault.Member.TheVariants.{Uid, PointsX, PointsY, Triangulations}
 
--- the value of a text has the fault
-abbrev pub HoldsIn : Data → Form → Type 0
-HoldsIn d NotJson = ⊥
-HoldsIn d NotObject = as_object d ≡ None
-HoldsIn d (Missing m) = get (name_of m) d ≡ None
-HoldsIn d (WrongType m) = (v : Data) × IsAt d m v × ¬ HasType m v
-HoldsIn d (NotInteger m place) = (v e : Data) × IsAt d m v × (slice_get (numbers_of m v) place ≡ Some e) × ¬ IsWhole e
-HoldsIn d (LengthMismatch x y) = (xs ys : Data) × IsAt d PointsX xs × IsAt d PointsY ys × (x ≡ length (elements xs)) × (y ≡ length (elements ys)) × (x ≢ y)
+-- the value of a text has these values at its members
+pub record HasMembers (d u x y t : Data) : Type 0 where
+  pub uid : IsAt d Uid u
+  pub xs : IsAt d PointsX x
+  pub ys : IsAt d PointsY y
+  pub inputs : IsAt d Triangulations t
 
--- the bytes have the fault: they are no text of JSON, or the value that they spell has it
-abbrev pub Holds : List ℕ → Form → Type 0
-Holds bytes NotJson = (d : Data) → ¬ IsText bytes d
-Holds bytes f = (d : Data) × IsText bytes d × HoldsIn d f
+-- the value of a text has this string and these lists at its members
+pub record HasLists (d : Data) (u : List ℕ) (x y t : List Data) : Type 0 where
+  pub uid : (v : Data) × IsAt d Uid v × (as_str v ≡ Some u)
+  pub xs : (v : Data) × IsAt d PointsX v × IsList v x
+  pub ys : (v : Data) × IsAt d PointsY v × IsList v y
+  pub inputs : (v : Data) × IsAt d Triangulations v × IsList v t
 
--- the place of a fault among all faults: the number of its kind, then its member and its place
-abbrev pub place_of : Form → List ℕ
-place_of NotJson = 1 ∷ []
-place_of NotObject = 2 ∷ []
-place_of (Missing m) = 3 ∷ number_of m ∷ []
-place_of (WrongType m) = 4 ∷ number_of m ∷ []
-place_of (NotInteger m place) = 5 ∷ number_of m ∷ place ∷ []
-place_of (LengthMismatch x y) = 6 ∷ []
+-- the value of a text spells the raw instance: its name, the x and the y of its points, and the pairs of its inputs
+pub record IsRaw (d : Data) (raw : RawInstance) : Type 0 where
+  pub uid : (v : Data) × IsAt d Uid v × (as_str v ≡ Some raw.uid)
+  pub xs : (v : Data) × IsAt d PointsX v × Lists IsNumber v (map (λ p. p.x) raw.points)
+  pub ys : (v : Data) × IsAt d PointsY v × Lists IsNumber v (map (λ p. p.y) raw.points)
+  pub inputs : (v : Data) × IsAt d Triangulations v × Lists (Lists IsPairOf) v raw.inputs
 
--- the one fault is looked for before the other
-abbrev pub IsEarlier : Form → Form → Type 0
-IsEarlier g f = slice_cmp nat_cmp (place_of g) (place_of f) ≡ Less
-
--- the value of a text has the fault, and no earlier one
-pub record IsFirstIn (d : Data) (f : Form) : Type 0 where
-  pub holds : HoldsIn d f
-  pub first : (g : Form) → IsEarlier g f → ¬ HoldsIn d g
-
--- the bytes have the fault, and no earlier one
-pub record IsFirstFault (bytes : List ℕ) (f : Form) : Type 0 where
-  pub holds : Holds bytes f
-  pub first : (g : Form) → IsEarlier g f → ¬ Holds bytes g
-
--- why the value of a text is refused; want of memory is free
-abbrev pub IsCauseIn : Data → InstanceFault → Type 0
-IsCauseIn d (faults.Form f) = IsFirstIn d f
-IsCauseIn d faults.OutOfMemory = ⊤
-
--- why the bytes are refused; want of memory is free
-abbrev pub IsCause : List ℕ → InstanceFault → Type 0
-IsCause bytes (faults.Form f) = IsFirstFault bytes f
-IsCause bytes faults.OutOfMemory = ⊤
-
--- the bytes have the form of an instance
-abbrev pub HasForm : List ℕ → Type 0
-HasForm bytes = (f : Form) → ¬ Holds bytes f
-
--- the fault names the first of the member's numbers that is not whole; want of memory is free
-abbrev pub IsOther : Member → List Data → InstanceFault → Type 0
-IsOther m ds (faults.Form f) = (place : ℕ) × (f ≡ NotInteger m place) × IsFirstOther ds place
-IsOther m ds faults.OutOfMemory = ⊤
+-- the bytes spell the raw instance
+pub record Spells (bytes : List ℕ) (raw : RawInstance) : Type 0 where
+  pub value : Data
+  pub text : IsText bytes value
+  pub is : IsRaw value raw

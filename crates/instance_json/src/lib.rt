@@ -6,3 +6,6 @@ mod read;
 
 pub use fault::{Form, InstanceFault, Member};
 pub use read::read_instance;
+
+#[cfg(test)]
+mod tests;

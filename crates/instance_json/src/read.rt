@@ -6,8 +6,8 @@ ghost use Rattle.serde_json.specs.Find.{as_array, as_str, get};
 ghost use Rattle.serde_json.specs.View.{view};
 ghost use Rattle.json_value.specs.Values.{IsList, IsListOf, IsNumber, IsPair, IsPairOf, Lists, numbers_of_pairs};
 ghost use Rattle.instance_json.specs.Members.{name_of, IsAt, HasType};
-ghost use Rattle.instance_json.specs.Forms.{IsCause, IsCauseIn, HasForm, IsOther};
-ghost use Rattle.instance_json.specs.Values.{HasMembers, HasLists, IsRaw, Spells};
+ghost use Rattle.instance_json.specs.Faults.{OnFault, OnFaultIn, HasForm, IsOther};
+ghost use Rattle.instance_json.specs.Forms.{HasMembers, HasLists, IsRaw, Spells};
 
 use crate::{Form, InstanceFault, Member};
 use geo_orient::Point;
@@ -21,7 +21,7 @@ pub fn read_instance(alloc: Global, bytes: &[u8]) -> Result<RawInstance, Instanc
     ensures ok { IfOk result (λ raw. Spells bytes.now raw) }
     ensures form { IfOk result (λ raw. HasForm bytes.now) }
     // The fault is the first that the bytes have.
-    ensures cause { IfErr result (λ e. IsCause bytes.now e) }
+    ensures fault { IfErr result (λ e. OnFault bytes.now e) }
 {
     match json_value::parse(alloc, bytes) {
         Ok(value) => instance_in(alloc, &value),
@@ -32,7 +32,7 @@ pub fn read_instance(alloc: Global, bytes: &[u8]) -> Result<RawInstance, Instanc
 
 fn instance_in(alloc: Global, value: &Value) -> Result<RawInstance, InstanceFault>
     ensures ok { IfOk result (λ raw. IsRaw (view value.now) raw) }
-    ensures cause { IfErr result (λ e. IsCauseIn (view value.now) e) }
+    ensures fault { IfErr result (λ e. OnFaultIn (view value.now) e) }
 {
     if !value.is_object() {
         return Err(InstanceFault::Form(Form::NotObject));
@@ -55,11 +55,17 @@ fn member_in<'a>(value: &'a Value, m: Member) -> Result<&'a Value, Form>
 }
 
 // The instance of an object with these members.
-fn instance_of_members(alloc: Global, uid: &Value, xs: &Value, ys: &Value, inputs: &Value) -> Result<RawInstance, InstanceFault>
+fn instance_of_members(
+    alloc: Global,
+    uid: &Value,
+    xs: &Value,
+    ys: &Value,
+    inputs: &Value,
+) -> Result<RawInstance, InstanceFault>
     ensures ok { IfOk result (λ raw. (d : Data)
         → HasMembers d (view uid.now) (view xs.now) (view ys.now) (view inputs.now) → IsRaw d raw) }
-    ensures cause { IfErr result (λ e. (d : Data)
-        → HasMembers d (view uid.now) (view xs.now) (view ys.now) (view inputs.now) → IsCauseIn d e) }
+    ensures fault { IfErr result (λ e. (d : Data)
+        → HasMembers d (view uid.now) (view xs.now) (view ys.now) (view inputs.now) → OnFaultIn d e) }
 {
     let uid = text_in(uid)?;
     let xs = list_in(xs, Member::PointsX)?;
@@ -101,12 +107,18 @@ fn inputs_in(value: &Value) -> Result<&[Value], Form>
 }
 
 // The instance of an object with this name and these lists at its members.
-fn instance_of_lists(alloc: Global, uid: &str, xs: &[Value], ys: &[Value], inputs: &[Value]) -> Result<RawInstance, InstanceFault>
+fn instance_of_lists(
+    alloc: Global,
+    uid: &str,
+    xs: &[Value],
+    ys: &[Value],
+    inputs: &[Value],
+) -> Result<RawInstance, InstanceFault>
     requires { All (IsListOf IsPair) (map view inputs.now) }
     ensures ok { IfOk result (λ raw. (d : Data)
         → HasLists d uid.now (map view xs.now) (map view ys.now) (map view inputs.now) → IsRaw d raw) }
-    ensures cause { IfErr result (λ e. (d : Data)
-        → HasLists d uid.now (map view xs.now) (map view ys.now) (map view inputs.now) → IsCauseIn d e) }
+    ensures fault { IfErr result (λ e. (d : Data)
+        → HasLists d uid.now (map view xs.now) (map view ys.now) (map view inputs.now) → OnFaultIn d e) }
 {
     let xs = numbers_in(alloc, xs, Member::PointsX)?;
     let ys = numbers_in(alloc, ys, Member::PointsY)?;
@@ -116,7 +128,11 @@ fn instance_of_lists(alloc: Global, uid: &str, xs: &[Value], ys: &[Value], input
     }
     let points = points_of(alloc, &xs, &ys)?;
     let uid = Uid::of(alloc, uid)?;
-    Ok(RawInstance { uid, points, inputs })
+    Ok(RawInstance {
+        uid,
+        points,
+        inputs,
+    })
 }
 
 fn numbers_in(alloc: Global, values: &[Value], m: Member) -> Result<Vec<i64>, InstanceFault>
@@ -137,7 +153,10 @@ fn pairs_in(alloc: Global, values: &[Value]) -> Result<RawInputs, InstanceFault>
 {
     match json_value::pair_lists_in(alloc, values) {
         Ok(inputs) => Ok(inputs),
-        Err(NumberFault::NotInteger(place)) => Err(InstanceFault::Form(Form::NotInteger(Member::Triangulations, place))),
+        Err(NumberFault::NotInteger(place)) => Err(InstanceFault::Form(Form::NotInteger(
+            Member::Triangulations,
+            place,
+        ))),
         Err(NumberFault::OutOfMemory) => Err(InstanceFault::OutOfMemory),
     }
 }

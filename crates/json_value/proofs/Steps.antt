@@ -1,12 +1,12 @@
 -- What a list of values gives, one value after another.
-use Rattle.std.proofs.Common.{◌≡◌, ◌∙◌, sym, ap, refl, subst, ℕ, ◌+◌, List, [], ◌∷◌, ◌++◌, length, map, Some, None, append_assoc, length-append, arith}
+use Rattle.std.proofs.Common.{◌≡◌, ◌∙◌, sym, ap, refl, subst, ℕ, ◌+◌, List, [], ◌∷◌, ◌++◌, length, append_assoc, length-append, arith}
 use Rattle.std.specs.Prelude.{All}
 use Rattle.std.specs.List.{AllZip, flat_map}
 use Rattle.std.proofs.lemmas.List.{append-nil}
 use Rattle.std.proofs.lemmas.List.Elements.{All-append}
 use Rattle.serde_json.specs.Data.{Data}
 use Rattle.serde_json.specs.View.{items_of}
-use Rattle.json_value.specs.Values.{IsWhole, IsFirstOther, IsList, list_of, elements, IsPair, IsListOf}
+use Rattle.json_value.specs.Values.{IsWhole, IsFirstOther, IsList, list_of, elements}
 
 -- ---- the first value that is no whole number
 pub other_before : (xs ys : List Data) (k : ℕ) → IsFirstOther xs k → IsFirstOther (xs ++ ys) k
@@ -14,9 +14,15 @@ other_before xs ys k (before, d, after, e, whole, other, at) =
     (before, d, after ++ ys, ap (λ t. t ++ ys) e ∙ append_assoc before (d ∷ after) ys, whole, other, at)
 
 pub other_behind : (xs ys : List Data) (k n : ℕ) → All IsWhole xs → n ≡ length xs → IsFirstOther ys k → IsFirstOther (xs ++ ys) (n + k)
-other_behind xs ys k n all len (before, d, after, e, whole, other, at) =
-    (xs ++ before, d, after, ap (λ t. xs ++ t) e ∙ sym (append_assoc xs before (d ∷ after)), All-append IsWhole xs before all whole, other,
-    let sum : length (xs ++ before) ≡ length xs + length before = length-append xs before in omega (arith, sum, len, at))
+other_behind xs ys k n all len (before, d, after, e, whole, other, at) = (
+  xs ++ before,
+  d,
+  after,
+  ap (λ t. xs ++ t) e ∙ sym (append_assoc xs before (d ∷ after)),
+  All-append IsWhole xs before all whole,
+  other,
+  let sum : length (xs ++ before) ≡ length xs + length before = length-append xs before in omega (arith, sum, len, at),
+)
 
 -- ---- reading a list: what is left of it, what was read, and the place of what is next
 pub record Reading {X : Type 0} (R : Data → X → Type 0) (f : Data → List Data) (vs rest : List Data) (xs : List X) (place : ℕ) : Type 0 where
@@ -34,7 +40,7 @@ pub reading_more : {X : Type 0} (R : Data → X → Type 0) (f : Data → List D
 reading_more R f vs d rest xs x place n is whole len r = record {
   ok = λ more h. subst (AllZip R vs) (sym (append_assoc xs (x ∷ []) more)) (r.ok (x ∷ more) (is, h));
   other = λ k h. let e : place + (n + k) ≡ place + n + k = omega arith in
-    subst (IsFirstOther (flat_map f vs)) e (r.other (n + k) (other_behind (f d) (flat_map f rest) k n whole len h));
+      subst (IsFirstOther (flat_map f vs)) e (r.other (n + k) (other_behind (f d) (flat_map f rest) k n whole len h));
 }
 
 pub reading_other : {X : Type 0} (R : Data → X → Type 0) (f : Data → List Data) (vs : List Data) (d : Data) (rest : List Data) (xs : List X) (place k : ℕ)

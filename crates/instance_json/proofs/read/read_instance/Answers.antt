@@ -8,6 +8,6 @@ pub returns-in-Ok-clause-form : goal.returns-in-Ok-clause-form
 returns-in-Ok-clause-form c =
     IfOk-weaker c.instance_in.result _ _ (λ raw r. form_of_text c.args.bytes.now (view c.in-Ok.value) c.in-Ok.ensures.ok (raw_no_fault (view c.in-Ok.value) raw r)) c.instance_in.ensures.ok
 
-pub returns-in-Ok-clause-cause : goal.returns-in-Ok-clause-cause
-returns-in-Ok-clause-cause c =
-    IfErr-weaker c.instance_in.result _ _ (λ e r. cause_of_text c.args.bytes.now (view c.in-Ok.value) c.in-Ok.ensures.ok e r) c.instance_in.ensures.cause
+pub returns-in-Ok-clause-fault : goal.returns-in-Ok-clause-fault
+returns-in-Ok-clause-fault c =
+    IfErr-weaker c.instance_in.result _ _ (λ e r. cause_of_text c.args.bytes.now (view c.in-Ok.value) c.in-Ok.ensures.ok e r) c.instance_in.ensures.fault

@@ -4,15 +4,17 @@ use Rattle.json_value.proofs.Rows.{all_more, all_of, one_of}
 use Rattle.json_value.proofs.pairs.are_pairs.Goals as goal
 
 pub returns-then-not-is_pair : goal.returns-then-not-is_pair
-returns-then-not-is_pair c =
-    (λ t. absurd (false≢true t),
-    λ all. c.if-not-is_pair.ensures.1 (one_of IsPair c.args.values.now c.loop-value.value-index c.value-item.result c.loop-value-test.true c.value-item.is all))
+returns-then-not-is_pair c = (
+  λ t. absurd (false≢true t),
+  λ all. c.if-not-is_pair.ensures.1 (one_of IsPair c.args.values.now c.loop-value.value-index c.value-item.result c.loop-value-test.true c.value-item.is all),
+)
 
 pub loop-value-preserved : goal.loop-value-preserved
 loop-value-preserved c =
     all_more IsPair c.args.values.now c.loop-value.value-index c.value-item.result c.loop-value-test.true c.value-item.is (c.is_pair.ensures.0 c.if-not-is_pair.false) c.loop-value.invariant
 
 pub returns : goal.returns
-returns c =
-    (λ t. all_of IsPair c.args.values.now c.loop-value.value-index c.loop-value-test.false c.loop-value.invariant,
-    λ all. search)
+returns c = (
+  λ t. all_of IsPair c.args.values.now c.loop-value.value-index c.loop-value-test.false c.loop-value.invariant,
+  λ all. search,
+)

@@ -7,6 +7,7 @@ use Rattle.json_value.proofs.pairs.is_pair_list.Goals as goal
 
 pub returns-in-Some : goal.returns-in-Some
 returns-in-Some c =
-    let is = sym c.in-Some.ensures in
-    (λ t. list_is IsPair _ c.in-Some.list.now.items is (subst (λ vs. All IsPair (map view vs)) c.deref.ensures.value (c.are_pairs.ensures.0 t)),
-    λ h. c.are_pairs.ensures.1 (subst (λ vs. All IsPair (map view vs)) (sym c.deref.ensures.value) (is_list IsPair _ c.in-Some.list.now.items is h)))
+    let is = sym c.in-Some.ensures in (
+      λ t. list_is IsPair _ c.in-Some.list.now.items is (subst (λ vs. All IsPair (map view vs)) c.deref.ensures.value (c.are_pairs.ensures.0 t)),
+      λ h. c.are_pairs.ensures.1 (subst (λ vs. All IsPair (map view vs)) (sym c.deref.ensures.value) (is_list IsPair _ c.in-Some.list.now.items is h)),
+    )

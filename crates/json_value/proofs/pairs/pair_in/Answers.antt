@@ -1,4 +1,4 @@
-use Rattle.std.proofs.Common.{◌≡◌, sym, arith, length}
+use Rattle.std.proofs.Common.{sym}
 use Rattle.json_value.proofs.Rows.{pair_is_two, first_other, second_other}
 use Rattle.json_value.proofs.pairs.pair_in.Goals as goal
 

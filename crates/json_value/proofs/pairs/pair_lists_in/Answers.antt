@@ -5,7 +5,6 @@ use Rattle.std.proofs.lemmas.List.{length-map}
 use Rattle.serde_json.specs.View.{view}
 use Rattle.json_value.specs.Faults.{OnOther}
 use Rattle.json_value.specs.Values.{IsPair, IsListOf, IsPairOf, Lists, elements, numbers_of_pairs}
-use Rattle.json_value.proofs.Steps.{Reading}
 use Rattle.json_value.proofs.Rows.{step_more, step_all, one_of, is_list, not_list, lists_are, numbers_are, numbers_whole, numbers_length, moved_other}
 use Rattle.json_value.proofs.pairs.pair_lists_in.Goals as goal
 
@@ -25,9 +24,9 @@ loop-value-preserved c =
     let es = map view c.in-Some.list.now.items in
     let zip : AllZip IsPairOf es c.in-Ok.pairs = subst (λ vs. AllZip IsPairOf (map view vs) c.in-Ok.pairs) c.deref.ensures.value c.in-Ok.ensures.ok in
     let more = step_more (Lists IsPairOf) numbers_of_pairs c.args.values.now c.loop-value.value-index c.value-item.result c.loop-value.lists c.in-Ok.pairs c.loop-value.place (2 * length es)
-        c.loop-value-test.true c.value-item.is (lists_are _ es _ is zip) (numbers_whole _ es _ is zip) (numbers_length _ es _ is zip) c.loop-value.invariant in
+    c.loop-value-test.true c.value-item.is (lists_are _ es _ is zip) (numbers_whole _ es _ is zip) (numbers_length _ es _ is zip) c.loop-value.invariant in
     let next : c.in-Some-checked_add.next ≡ c.loop-value.place + 2 * length es =
-        omega (arith, c.in-Some-checked_add.ensures.1, c.len.ensures, c.in-Some.list.now.ok, length-map c.in-Some.list.now.items view) in
+    omega (arith, c.in-Some-checked_add.ensures.1, c.len.ensures, c.in-Some.list.now.ok, length-map c.in-Some.list.now.items view) in
     rw (c.in_ok-push-in-Ok.ensures.ok, next) more
 
 pub returns-in-Err-clause-other : goal.returns-in-Err-clause-other

@@ -9,7 +9,7 @@ pair_in-requires c = one_of IsPair c.args.values.now c.loop-value.value-index c.
 pub loop-value-preserved : goal.loop-value-preserved
 loop-value-preserved c =
     let more = step_more IsPairOf elements c.args.values.now c.loop-value.value-index c.value-item.result c.loop-value.pairs c.in-Ok.pair c.loop-value.place 2
-        c.loop-value-test.true c.value-item.is c.in-Ok.ensures.ok (pair_whole _ _ c.in-Ok.ensures.ok) (pair_length _ _ c.in-Ok.ensures.ok) c.loop-value.invariant.1 in
+    c.loop-value-test.true c.value-item.is c.in-Ok.ensures.ok (pair_whole _ _ c.in-Ok.ensures.ok) (pair_length _ _ c.in-Ok.ensures.ok) c.loop-value.invariant.1 in
     (omega (arith, c.loop-value.invariant.0), rw c.in_ok-push-in-Ok.ensures.ok more)
 
 pub returns-in-Err-clause-other : goal.returns-in-Err-clause-other
