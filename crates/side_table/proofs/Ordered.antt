@@ -10,15 +10,16 @@ abbrev pub way : Side → Edge
 way s = (s.from, s.to)
 
 -- ---- elements
-pub here : (s t : Side) (ss : List Side) → t ≡ s → Contains (t ∷ ss) s
-here s t ss h = (0, omega arith, h)
+module _ {X : Type 0} where
+  pub here : (s t : X) (ss : List X) → t ≡ s → Contains (t ∷ ss) s
+  here s t ss h = (0, omega arith, h)
 
-pub later : (s t : Side) (ss : List Side) → Contains ss s → Contains (t ∷ ss) s
-later s t ss (k, l, h) = (suc k, omega arith, h)
+  pub later : (s t : X) (ss : List X) → Contains ss s → Contains (t ∷ ss) s
+  later s t ss (k, l, h) = (suc k, omega arith, h)
 
-pub cases : (s t : Side) (ss : List Side) → Contains (t ∷ ss) s → (t ≡ s) ⊎ Contains ss s
-cases s t ss (zero, l, h) = inl h
-cases s t ss (suc k, l, h) = inr (k, omega arith, h)
+  pub cases : (s t : X) (ss : List X) → Contains (t ∷ ss) s → (t ≡ s) ⊎ Contains ss s
+  cases s t ss (zero, l, h) = inl h
+  cases s t ss (suc k, l, h) = inr (k, omega arith, h)
 
 pub in_front : (l m : List Side) (s : Side) → Contains l s → Contains (l ++ m) s
 in_front l m s h = Contains-append_left l m s h

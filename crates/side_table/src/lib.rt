@@ -6,3 +6,7 @@ mod table;
 mod tree;
 
 pub use side::Side;
+pub use table::SideTable;
+
+#[cfg(test)]
+mod tests;

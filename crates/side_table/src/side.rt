@@ -11,16 +11,18 @@ pub struct Side {
     pub apex: Option<u32>,
 }
 
-// Whether the side is the way from `u` to `v`.
-pub(crate) fn is_way(s: Side, u: u32, v: u32) -> bool
-    ensures { IsTrue result ↔ IsWay s u v }
-{
-    s.from == u && s.to == v
-}
+impl Side {
+    /// Whether the side is the way from `u` to `v`.
+    pub fn is_way(self, u: u32, v: u32) -> bool
+        ensures { IsTrue result ↔ IsWay self u v }
+    {
+        self.from == u && self.to == v
+    }
 
-// Whether the side comes before the way from `u` to `v`.
-pub(crate) fn comes_before(s: Side, u: u32, v: u32) -> bool
-    ensures { IsTrue result ↔ IsBefore (s.from, s.to) (u, v) }
-{
-    s.from < u || (s.from == u && s.to < v)
+    /// Whether the side comes before the way from `u` to `v`.
+    pub fn comes_before(self, u: u32, v: u32) -> bool
+        ensures { IsTrue result ↔ IsBefore (self.from, self.to) (u, v) }
+    {
+        self.from < u || (self.from == u && self.to < v)
+    }
 }

@@ -1,9 +1,9 @@
 // The sides of a mesh, found by their ends.
 ghost use Rattle.std.specs.Prelude.{◌≡◌, ℕ, [], MatchOption, IfOk, OnOk, OnErr, Contains};
 ghost use Rattle.side_table.specs.declared.side.Side.{Side};
-ghost use Rattle.side_table.specs.Sides.{HasSide, IsWay, AddsSide, PutsSide};
+ghost use Rattle.side_table.specs.Sides.{HasSide, IsWay, IsOrderedSides, AddsSide, PutsSide};
 
-use crate::side::Side;
+use crate::Side;
 use crate::tree::{Tree, spare_node};
 use std::alloc::{AllocError, Global};
 use std::marker::Model;
@@ -40,6 +40,15 @@ impl SideTable {
             tree: Tree::new(),
             alloc,
         }
+    }
+
+    /// The sides of an ordered list, in O(n) steps.
+    pub fn of(alloc: Global, sides: &[Side]) -> Result<SideTable, AllocError>
+        requires { IsOrderedSides sides.now }
+        ensures { IfOk result (λ t. t ≡ sides.now) }
+    {
+        let tree = Tree::of(alloc, sides)?;
+        Ok(SideTable { tree, alloc })
     }
 
     /// The way from `u` to `v`, where it is there. It takes O(log n) steps.

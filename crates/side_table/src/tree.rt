@@ -4,7 +4,7 @@ ghost use Rattle.side_table.specs.declared.side.Side.{Side};
 ghost use Rattle.side_table.specs.Sides.{HasSide, IsWay, IsOrderedSides};
 ghost use Rattle.side_table.specs.Trees.{IsRest, IsPlaced};
 
-use crate::side::{Side, comes_before, is_way};
+use crate::Side;
 use std::alloc::{AllocError, Global};
 use std::marker::Model;
 use std::mem;
@@ -231,12 +231,12 @@ impl Tree {
         match self.open() {
             None => unreachable!(),
             Some(o) => {
-                if is_way(o.side, u, v) {
+                if o.side.is_way(u, v) {
                     Rest {
                         tree: o.left.join(o.right),
                         node: o.node,
                     }
-                } else if comes_before(o.side, u, v) {
+                } else if o.side.comes_before(u, v) {
                     let r = o.right.remove(u, v);
                     Rest {
                         tree: balance(o.left, o.side, r.tree, o.node),
@@ -262,7 +262,7 @@ impl Tree {
         match self.open() {
             None => fork(Tree::new(), t, Tree::new(), node),
             Some(o) => {
-                if comes_before(o.side, t.from, t.to) {
+                if o.side.comes_before(t.from, t.to) {
                     let right = o.right.insert(t, node);
                     balance(o.left, o.side, right, o.node)
                 } else {
@@ -282,9 +282,9 @@ impl Tree {
             None => None,
             Some(node) => {
                 let n = &**node;
-                if is_way(n.side, u, v) {
+                if n.side.is_way(u, v) {
                     Some(n.side)
-                } else if comes_before(n.side, u, v) {
+                } else if n.side.comes_before(u, v) {
                     n.right.find(u, v)
                 } else {
                     n.left.find(u, v)
@@ -311,6 +311,20 @@ impl Tree {
                 }
             }
         }
+    }
+
+    // The tree of these sides, as low as can be.
+    pub(crate) fn of(alloc: Global, sides: &[Side]) -> Result<Tree, AllocError>
+        ensures { IfOk result (λ t. t ≡ sides.now) }
+    {
+        if sides.is_empty() {
+            return Ok(Tree::new());
+        }
+        let middle = sides.len() / 2;
+        let left = Tree::of(alloc, &sides[..middle])?;
+        let right = Tree::of(alloc, &sides[middle + 1..])?;
+        let node = spare_node(alloc)?;
+        Ok(fork(left, sides[middle], right, node))
     }
 
     // Appends the sides in order.
