@@ -1,0 +1,10 @@
+pub mod Built
+pub mod Flipped
+pub mod Listed
+pub mod Meshes
+pub mod Nearest
+pub mod Places
+pub mod Quads
+pub mod Turned
+pub mod Whole
+pub mod Writes
