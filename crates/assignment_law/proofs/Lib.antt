@@ -1,4 +1,0 @@
-pub mod Best
-pub mod BoundExamples
-pub mod Distinct
-pub mod Proved
