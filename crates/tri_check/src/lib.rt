@@ -2,7 +2,11 @@
 #![tactic(auto)]
 
 mod fault;
+mod hull;
 mod instance;
+mod members;
+mod network;
+mod points;
 mod raw;
 mod triang;
 mod uid;

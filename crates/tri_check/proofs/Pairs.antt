@@ -1,0 +1,109 @@
+-- Pairs of an input as edges.
+use Rattle.std.proofs.Common.{◌≡◌, ◌⊎◌, inl, inr, ◌↔◌, ℕ, zero, suc, ◌+◌, ◌<◌, ◌≤◌, min, max, ℤ, pos, negsuc, ◌≤ℤ◌, ◌<ℤ◌, unsigned_abs, List, [], ◌∷◌, map, length, get_or, Contains, refl, sym, ap, ap₂, ◌∙◌, subst, arith}
+use Rattle.std.proofs.lemmas.Int.{ints}
+use Rattle.geo_orient.specs.declared.Point.{Point}
+use Rattle.edge_table.specs.declared.edge.Edge.{Edge}
+use Rattle.edge_table.specs.Edges.{edge, IsAscending, AddsEdge}
+use Rattle.tri_theory.specs.Inputs.{IsHullSegment, IsCompleted}
+use Rattle.tri_check.specs.declared.raw.RawPair.{RawPair}
+use Rattle.tri_check.specs.Faults.{NamesPoint, IsListed, IsCompletedInput}
+use Rattle.tri_check.specs.Stages.{AreHull, ArePairs, AreMembers, AreEdges, IsNone, IsLoop, pair_at, edge_at}
+use Rattle.tri_check.proofs.Searches.{split}
+
+pub members_begin : (points : List Point) (raw : List RawPair) (hull edges : List Edge) → AreHull points hull → edges ≡ hull → AreMembers points raw edges 0
+members_begin points raw hull edges H e = subst (λ es. AreMembers points raw es 0) (sym e) (record {
+  ascending = H.ascending;
+  sound = λ f h. inr ((H.members f).0 h);
+  listed = λ k h. absurd (omega arith);
+  hull = λ f h. (H.members f).1 h;
+})
+
+pub member_more : (points : List Point) (raw : List RawPair) (old new : List Edge) (p : ℕ) (e : Edge) → AreMembers points raw old p → AddsEdge old new e → IsAscending new → e ≡ edge_at raw p → AreMembers points raw new (p + 1)
+member_more points raw old new p e M adds up is = record {
+  ascending = up;
+  sound = λ f h. sound f ((adds f).0 h);
+  listed = λ k h. (adds (edge_at raw k)).1 (listed k (split p k h));
+  hull = λ f h. (adds f).1 (inl (M.hull f h));
+}
+  where
+    older : (f : Edge) → ((k : ℕ) × (k < p) × (f ≡ edge_at raw k)) ⊎ IsHullSegment points f → ((k : ℕ) × (k < p + 1) × (f ≡ edge_at raw k)) ⊎ IsHullSegment points f
+    older f (inl (k, l, i)) = inl (k, omega arith, i)
+    older f (inr h) = inr h
+
+    sound : (f : Edge) → Contains old f ⊎ (f ≡ e) → ((k : ℕ) × (k < p + 1) × (f ≡ edge_at raw k)) ⊎ IsHullSegment points f
+    sound f (inl h) = older f (M.sound f h)
+    sound f (inr i) = inl (p, omega arith, i ∙ is)
+
+    listed : (k : ℕ) → (k < p) ⊎ (k ≡ p) → Contains old (edge_at raw k) ⊎ (edge_at raw k ≡ e)
+    listed k (inl l) = inl (M.listed k l)
+    listed k (inr i) = inr (ap (edge_at raw) i ∙ sym is)
+
+-- ---- the completed input
+abbrev numbers : RawPair → ℕ × ℕ
+numbers pair = (unsigned_abs pair.a, unsigned_abs pair.b)
+
+natural : (z : ℤ) → pos 0 ≤ℤ z → z ≡ pos (unsigned_abs z)
+natural (pos n) h = refl
+natural (negsuc n) h = absurd (omega (arith, ints))
+
+abbrev raw_of : ℕ × ℕ → RawPair
+raw_of pair = record { a = pos pair.0; b = pos pair.1 }
+
+same_pair : (pair : RawPair) → pos 0 ≤ℤ pair.a → pos 0 ≤ℤ pair.b → pair ≡ raw_of (numbers pair)
+same_pair pair h k = ap₂ (λ x y. let p : RawPair = record { a = x; b = y } in p) (natural pair.a h) (natural pair.b k)
+
+listed : (raw : List RawPair) → ((p : ℕ) → p < length raw → pos 0 ≤ℤ (pair_at raw p).a) → ((p : ℕ) → p < length raw → pos 0 ≤ℤ (pair_at raw p).b) → raw ≡ map raw_of (map numbers raw)
+listed [] h k = refl
+listed (r ∷ rs) h k = ap₂ ◌∷◌ (same_pair r (h 0 (omega arith)) (k 0 (omega arith))) (listed rs (λ p l. h (suc p) (omega arith)) (λ p l. k (suc p) (omega arith)))
+
+at_map : (raw : List RawPair) (k : ℕ) (d : ℕ × ℕ) → k < length raw → get_or (map numbers raw) k d ≡ numbers (pair_at raw k)
+at_map [] k d l = absurd (omega arith)
+at_map (r ∷ rs) zero d l = refl
+at_map (r ∷ rs) (suc k) d l = at_map rs k d (omega arith)
+
+as_long : (raw : List RawPair) → length (map numbers raw) ≡ length raw
+as_long [] = refl
+as_long (r ∷ rs) = ap suc (as_long rs)
+
+pub completed : (points : List Point) (raw : List RawPair) (edges : List Edge) (p : ℕ) → ArePairs points raw → p ≡ length raw → AreMembers points raw edges p → IsCompletedInput points raw edges
+completed points raw edges p P all M = (map numbers raw, listed raw (λ k l. (P.first k l).0) (λ k l. (P.second k l).0), record { ascending = M.ascending; members = λ e. (λ h. to e (M.sound e h), λ h. from e h) })
+  where
+    to : (e : Edge) → ((k : ℕ) × (k < p) × (e ≡ edge_at raw k)) ⊎ IsHullSegment points e → ((a b : ℕ) × Contains (map numbers raw) (a, b) × (e ≡ edge a b)) ⊎ IsHullSegment points e
+    to e (inl (k, l, i)) = inl (unsigned_abs (pair_at raw k).a, unsigned_abs (pair_at raw k).b, (k, (let h = as_long raw in omega arith), at_map raw k (numbers (pair_at raw k)) (omega arith)), i)
+    to e (inr h) = inr h
+
+    here : (k a b : ℕ) → k < length raw → get_or (map numbers raw) k (a, b) ≡ (a, b) → edge a b ≡ edge_at raw k
+    here k a b l h = ap (λ (q : ℕ × ℕ). edge q.0 q.1) (sym h ∙ at_map raw k (a, b) l)
+
+    from : (e : Edge) → ((a b : ℕ) × Contains (map numbers raw) (a, b) × (e ≡ edge a b)) ⊎ IsHullSegment points e → Contains edges e
+    from e (inl (a, b, (k, l, h), i)) =
+        let m : k < length raw = (let q = as_long raw in omega arith) in
+        subst (Contains edges) (sym (i ∙ here k a b m h)) (M.listed k (omega arith))
+    from e (inr h) = M.hull e h
+
+pub edges_of_points : (points : List Point) (raw : List RawPair) (edges : List Edge) (p : ℕ) → ArePairs points raw → IsNone (length raw) (IsLoop raw) → p ≡ length raw → AreMembers points raw edges p → AreEdges points edges
+edges_of_points points raw edges p P apart all M = record { low_first = λ e h. low e (M.sound e h); in_range = λ e h. high e (M.sound e h) }
+  where
+    below : (z : ℤ) (n : ℕ) → pos 0 ≤ℤ z → z <ℤ pos n → unsigned_abs z < n
+    below z n h k = omega (arith, ints)
+
+    differ : (x y : ℤ) → pos 0 ≤ℤ x → pos 0 ≤ℤ y → ¬ (x ≡ y) → min (unsigned_abs x) (unsigned_abs y) < max (unsigned_abs x) (unsigned_abs y)
+    differ x y h k n = apart_by (unsigned_abs x) (unsigned_abs y) (λ e. n (natural x h ∙ ap pos e ∙ sym (natural y k)))
+      where
+        apart_by : (a b : ℕ) → ¬ (a ≡ b) → min a b < max a b
+        apart_by a b n = omega arith
+
+    low : (e : Edge) → ((k : ℕ) × (k < p) × (e ≡ edge_at raw k)) ⊎ IsHullSegment points e → e.0 < e.1
+    low e (inl (k, l, i)) =
+        let m : k < length raw = omega arith in
+        subst (λ (f : Edge). f.0 < f.1) (sym i) (differ (pair_at raw k).a (pair_at raw k).b (P.first k m).0 (P.second k m).0 (apart k m))
+    low e (inr h) = h.0.low_first
+
+    higher : (a b n : ℕ) → a < n → b < n → max a b < n
+    higher a b n h k = omega arith
+
+    high : (e : Edge) → ((k : ℕ) × (k < p) × (e ≡ edge_at raw k)) ⊎ IsHullSegment points e → e.1 < length points
+    high e (inl (k, l, i)) =
+        let m : k < length raw = omega arith in
+        subst (λ (f : Edge). f.1 < length points) (sym i) (higher (unsigned_abs (pair_at raw k).a) (unsigned_abs (pair_at raw k).b) (length points) (below (pair_at raw k).a (length points) (P.first k m).0 (P.first k m).1) (below (pair_at raw k).b (length points) (P.second k m).0 (P.second k m).1))
+    high e (inr h) = h.0.in_range

@@ -1,0 +1,14 @@
+-- What an instance has of the raw values that it is made from.
+use Rattle.std.specs.Prelude.{◌≡◌, ℕ, List}
+use Rattle.std.specs.List.{AllZip}
+use Rattle.geo_orient.specs.declared.Point.{Point}
+use Rattle.tri_check.specs.declared.raw.RawPair.{RawPair}
+use Rattle.tri_check.specs.Problems.{Problem}
+use Rattle.tri_check.specs.Faults.{IsCompletedInput, IsValid}
+
+-- the raw values have no fault; the name and the points are kept, and each input becomes what its pairs stand for
+pub record IsAccepted (name : List ℕ) (listed : List Point) (raw : List (List RawPair)) (problem : Problem) : Type 0 where
+  pub uid : problem.uid ≡ name
+  pub points : problem.points ≡ listed
+  pub inputs : AllZip (IsCompletedInput listed) raw problem.inputs
+  pub valid : IsValid listed raw
