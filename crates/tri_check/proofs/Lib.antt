@@ -3,3 +3,8 @@ pub mod Lines
 pub mod Outline
 pub mod Pairs
 pub mod Nets
+pub mod Whole
+pub mod Order
+pub mod PointFaults
+pub mod InputFaults
+pub mod Made

@@ -1,10 +1,12 @@
--- What an instance has of the raw values that it is made from.
-use Rattle.std.specs.Prelude.{◌≡◌, ℕ, List}
+-- What the validator answers.
+use Rattle.std.specs.Prelude.{◌≡◌, ⊤, ℕ, List}
 use Rattle.std.specs.List.{AllZip}
 use Rattle.geo_orient.specs.declared.Point.{Point}
 use Rattle.tri_check.specs.declared.raw.RawPair.{RawPair}
+use Rattle.tri_check.specs.declared.fault.CheckFault.{CheckFault}
+use Rattle.tri_check.specs.declared.fault.CheckFault.TheVariants as fault
 use Rattle.tri_check.specs.Problems.{Problem}
-use Rattle.tri_check.specs.Faults.{IsCompletedInput, IsValid}
+use Rattle.tri_check.specs.Faults.{IsCompletedInput, IsFirstFault, IsValid}
 
 -- the raw values have no fault; the name and the points are kept, and each input becomes what its pairs stand for
 pub record IsAccepted (name : List ℕ) (listed : List Point) (raw : List (List RawPair)) (problem : Problem) : Type 0 where
@@ -12,3 +14,8 @@ pub record IsAccepted (name : List ℕ) (listed : List Point) (raw : List (List 
   pub points : problem.points ≡ listed
   pub inputs : AllZip (IsCompletedInput listed) raw problem.inputs
   pub valid : IsValid listed raw
+
+-- a refusal names the first fault, or says that memory is wanting; then it says nothing of the values
+abbrev pub IsRefusal : List Point → List (List RawPair) → CheckFault → Type 0
+IsRefusal points inputs (fault.Bad b) = IsFirstFault points inputs b
+IsRefusal points inputs fault.OutOfMemory = ⊤

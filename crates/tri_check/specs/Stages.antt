@@ -3,14 +3,12 @@ use Rattle.std.specs.Prelude.{◌≡◌, ◌≢◌, ◌⊎◌, ⊤, ℕ, ◌<◌
 use Rattle.geo_orient.specs.declared.Point.{Point}
 use Rattle.edge_table.specs.declared.edge.Edge.{Edge}
 use Rattle.edge_table.specs.Edges.{edge, IsBefore, IsAscending}
-use Rattle.tri_theory.specs.Points.{point, turn, IsLeft, Separates}
+use Rattle.tri_theory.specs.Points.{point, turn, IsLeft, Separates, ArePlaced}
 use Rattle.tri_theory.specs.Triangulations.{AreJoined, Crosses, IsOutside, IsEmptyTriangle, IsTriangulation}
 use Rattle.tri_theory.specs.Inputs.{IsHullSegment}
 use Rattle.tri_check.specs.declared.raw.RawPair.{RawPair}
 use Rattle.tri_check.specs.declared.fault.Bad.{Bad}
-use Rattle.tri_check.specs.declared.fault.CheckFault.{CheckFault}
-use Rattle.tri_check.specs.declared.fault.CheckFault.TheVariants as fault
-use Rattle.tri_check.specs.Layouts.{AreInReach}
+use Rattle.tri_check.specs.Layouts.{Layout, AreInReach}
 use Rattle.tri_check.specs.Faults.{Holds, NamesPoint, place_of, IsFirstFault, IsCompletedInput, IsOpen}
 
 -- ---- searches
@@ -172,13 +170,29 @@ pub record AreClear (points : List Point) (inputs : List (List RawPair)) (k : �
 pub record IsFaultless (points : List Point) (inputs : List (List RawPair)) (t : ℕ) : Type 0 where
   pub none : (c : Bad) → rank_of c ≡ 9 → input_of c ≡ t → ¬ Holds points inputs c
 
--- a refusal names the first fault, or want of memory
-abbrev pub IsRefusal : List Point → List (List RawPair) → CheckFault → Type 0
-IsRefusal points inputs (fault.Bad b) = IsFirstFault points inputs b
-IsRefusal points inputs fault.OutOfMemory = ⊤
-
 -- the edges are what the input with this place stands for, a triangulation
 pub record IsInput (points : List Point) (inputs : List (List RawPair)) (t : ℕ) (edges : List Edge) : Type 0 where
   pub completed : (raw : List RawPair) → slice_get inputs t ≡ Some raw → IsCompletedInput points raw edges
   pub triangulation : IsTriangulation points edges
   pub faultless : IsFaultless points inputs t
+
+-- the numbers of points, inputs and pairs are within the limits
+pub record AreLimited (points : List Point) (inputs : List (List RawPair)) : Type 0 where
+  pub clear : AreClear points inputs 4
+  pub few_points : length points ≤ 16384
+  pub few_inputs : length inputs ≤ 256
+
+-- no fault but those of an input is there
+pub record AreSound (points : List Point) (inputs : List (List RawPair)) : Type 0 where
+  pub clear : AreClear points inputs 9
+  pub usable : AreUsable points
+  pub placed : ArePlaced points
+  pub some_points : 3 ≤ length points
+  pub some_input : 1 ≤ length inputs
+  pub few_inputs : length inputs ≤ 256
+
+-- the first t triangulations are what the first t inputs stand for
+pub record AreDone (points : List Point) (raw : List (List RawPair)) (layouts : List Layout) (t : ℕ) : Type 0 where
+  pub count : length layouts ≡ t
+  pub inputs : (k : ℕ) (d : Layout) → k < t → IsInput points raw k (slice_index_or layouts k d).edges
+  pub shared : (k : ℕ) (d : Layout) → k < t → (slice_index_or layouts k d).points ≡ points

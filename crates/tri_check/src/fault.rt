@@ -1,5 +1,9 @@
 // What makes raw values no instance.
+ghost use Rattle.std.specs.Prelude.{◌≡◌};
+ghost use Rattle.tri_check.specs.declared.fault.CheckFault.TheVariants.{OutOfMemory};
+
 use edge_table::Edge;
+use std::alloc::{AllocError, AllocFailed};
 
 /// Why raw values are refused. An input is named by its place, a pair by its place in its input, a point by its number, all from 0.
 #[derive(Clone, Copy, Debug, PartialEq, Eq)]
@@ -39,4 +43,20 @@ pub enum Bad {
     LonePoint(u32, u32),
     /// In the input, the member lacks an empty triangle on a side on which points lie.
     OpenSide(u32, Edge),
+}
+
+impl From<AllocError> for CheckFault {
+    ghost from_gives = { λ _ e. e ≡ OutOfMemory };
+
+    fn from(_: AllocError) -> Self {
+        CheckFault::OutOfMemory
+    }
+}
+
+impl<T: Drop> From<AllocFailed<T>> for CheckFault {
+    ghost from_gives = { λ _ e. e ≡ OutOfMemory };
+
+    fn from(_: AllocFailed<T>) -> Self {
+        CheckFault::OutOfMemory
+    }
 }

@@ -1,12 +1,15 @@
 // An instance: a name, points, and triangulations of them as inputs.
-ghost use Rattle.std.specs.Prelude.{◌≡◌, ◌<◌, ◌↔◌, length, slice_get, Some, IsTrue};
+ghost use Rattle.std.specs.Prelude.{◌≡◌, ◌<◌, ◌↔◌, length, slice_get, Some, IsTrue, IfOk, IfErr};
 ghost use Rattle.tri_theory.specs.Triangulations.{IsSegment};
 ghost use Rattle.tri_check.specs.Problems.{IsProblem};
-ghost use Rattle.tri_check.specs.Faults.{IsFirstFault, IsValid};
+ghost use Rattle.tri_check.specs.Accepted.{IsAccepted, IsRefusal};
 
-use crate::{PointList, Triang, Uid};
+use crate::check::{check_inputs, check_limits, check_points};
+use crate::network::blocker_of;
+use crate::{CheckFault, PointList, RawInstance, Triang, Uid};
 use edge_table::Edge;
-use geo_orient::{Point, between};
+use geo_orient::Point;
+use std::alloc::Global;
 use std::marker::Model;
 use std::sync::Arc;
 
@@ -36,6 +39,30 @@ fn triangulation_at(inputs: &[Triang], i: usize) -> &Triang
 }
 
 impl Instance {
+    /// The instance of raw values, or what is wrong with them. Time grows with the square of the number of points and of the members of each input, and for each member with the number of points.
+    pub fn check(alloc: Global, raw: RawInstance) -> Result<Arc<Self>, CheckFault>
+        ensures ok { IfOk result (λ i. IsAccepted raw.uid raw.points raw.inputs i.value) }
+        ensures bad { IfErr result (IsRefusal raw.points raw.inputs) }
+    {
+        let RawInstance {
+            uid,
+            points,
+            inputs: listed,
+        } = raw;
+        check_limits(points.as_slice(), &listed)?;
+        check_points(points.as_slice(), &listed)?;
+        let points = Arc::new(alloc, points)?;
+        let inputs = check_inputs(alloc, &points, &listed)?;
+        Ok(Arc::new(
+            alloc,
+            Instance {
+                uid,
+                points,
+                inputs,
+            },
+        )?)
+    }
+
     pub fn uid(&self) -> &Uid
         ensures { result.now ≡ self.now.uid }
     {
@@ -70,5 +97,14 @@ impl Instance {
         ensures edges { slice_get self.now.inputs t ≡ Some result.now.edges }
     {
         triangulation_at(&self.inputs, t as usize)
+    }
+
+    /// Whether no point lies strictly between the ends, in time linear in the number of points.
+    pub fn is_segment(&self, e: Edge) -> bool
+        requires { e.1 < length self.now.points }
+        ensures { IsTrue result ↔ IsSegment self.now.points e }
+    {
+        let _ = self.count();
+        blocker_of(self.points.as_slice(), e).is_none()
     }
 }

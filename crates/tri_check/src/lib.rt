@@ -1,6 +1,7 @@
 //! Instances: points with triangulations as inputs, and the validator that makes them from raw values.
 #![tactic(auto)]
 
+mod check;
 mod fault;
 mod hull;
 mod instance;
