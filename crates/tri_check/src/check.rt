@@ -14,7 +14,9 @@ use std::alloc::Global;
 use std::sync::Arc;
 
 const MAX_POINTS: usize = 16_384;
+
 const MAX_INPUTS: usize = 256;
+
 const MAX_PAIRS: u64 = 2_000_000;
 
 // The number of pairs in all inputs, where it fits.
@@ -75,7 +77,12 @@ pub(crate) fn check_points(points: &[Point], inputs: &RawInputs) -> Result<(), C
 }
 
 // The members of the input with the place `t`, where they are a triangulation.
-fn check_input(points: &[Point], inputs: &RawInputs, hull: &EdgeList, t: usize) -> Result<EdgeList, CheckFault>
+fn check_input(
+    points: &[Point],
+    inputs: &RawInputs,
+    hull: &EdgeList,
+    t: usize,
+) -> Result<EdgeList, CheckFault>
     requires sound { stage.AreSound points.now inputs.now }
     requires hull { stage.AreHull points.now hull.now }
     requires within { t < length inputs.now }
@@ -108,7 +115,11 @@ fn check_input(points: &[Point], inputs: &RawInputs, hull: &EdgeList, t: usize) 
 }
 
 // The triangulations that the inputs stand for.
-pub(crate) fn check_inputs(alloc: Global, points: &Arc<PointList>, inputs: &RawInputs) -> Result<Vec<Triang>, CheckFault>
+pub(crate) fn check_inputs(
+    alloc: Global,
+    points: &Arc<PointList>,
+    inputs: &RawInputs,
+) -> Result<Vec<Triang>, CheckFault>
     requires { stage.AreSound points.now.value inputs.now }
     ensures ok { IfOk result (λ v. stage.AreDone points.now.value inputs.now v.items (length inputs.now)) }
     ensures err { IfErr result (IsRefusal points.now.value inputs.now) }

@@ -17,3 +17,6 @@ pub use instance::Instance;
 pub use raw::{PairList, PointList, RawInputs, RawInstance, RawPair};
 pub use triang::Triang;
 pub use uid::Uid;
+
+#[cfg(test)]
+mod tests;

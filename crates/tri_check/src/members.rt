@@ -55,7 +55,12 @@ fn edge_of(points: &[Point], pair: RawPair) -> Option<Edge>
 }
 
 // Adds the pair with the place `p`.
-fn add_pair(points: &[Point], pairs: &[RawPair], edges: &mut EdgeList, p: usize) -> Result<(), AllocError>
+fn add_pair(
+    points: &[Point],
+    pairs: &[RawPair],
+    edges: &mut EdgeList,
+    p: usize,
+) -> Result<(), AllocError>
     requires usable { stage.AreUsable points.now }
     requires pairs { stage.ArePairs points.now pairs.now }
     requires apart { stage.IsNone (length pairs.now) (stage.IsLoop pairs.now) }
@@ -73,7 +78,11 @@ fn add_pair(points: &[Point], pairs: &[RawPair], edges: &mut EdgeList, p: usize)
 }
 
 // The members.
-pub(crate) fn members(points: &[Point], pairs: &[RawPair], hull: &EdgeList) -> Result<EdgeList, AllocError>
+pub(crate) fn members(
+    points: &[Point],
+    pairs: &[RawPair],
+    hull: &EdgeList,
+) -> Result<EdgeList, AllocError>
     requires usable { stage.AreUsable points.now }
     requires pairs { stage.ArePairs points.now pairs.now }
     requires apart { stage.IsNone (length pairs.now) (stage.IsLoop pairs.now) }
