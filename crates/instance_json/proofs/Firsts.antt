@@ -1,5 +1,5 @@
 -- Which fault is the first.
-use Rattle.std.proofs.Common.{◌≡◌, ◌≢◌, ◌∙◌, ◌⊎◌, inl, inr, sym, ap, refl, subst, ℕ, ◌+◌, ◌<◌, List, [], ◌∷◌, ◌++◌, length, get_or, Some, None, arith}
+use Rattle.std.proofs.Common.{◌≡◌, ◌≢◌, ◌∙◌, ◌⊎◌, inl, inr, sym, ap, refl, subst, ℕ, ◌+◌, ◌<◌, List, [], ◌∷◌, length, Some, None, arith}
 use Rattle.std.specs.Prelude.{All, ⊤, slice_get}
 use Rattle.std.specs.declared.cmp.Ordering.{Ordering}
 use Rattle.std.specs.declared.cmp.Ordering.TheVariants.{Less, Equal, Greater}
@@ -7,12 +7,10 @@ use Rattle.std.specs.Ordering.{MatchOrdering, nat_cmp, ordering_then}
 use Rattle.std.specs.Cmp.Lexicographic.{slice_cmp}
 use Rattle.std.proofs.lemmas.Cmp.{ranked}
 use Rattle.std.proofs.lemmas.Bool.{cases_lt}
-use Rattle.std.proofs.lemmas.Option.{slice_get_within, get_or_from_slice_get, slice_get-get_or}
-use Rattle.std.proofs.lemmas.List.{get_or_append_left, length-append}
-use Rattle.std.proofs.Math.Seq.{get_or-append_seam}
 use Rattle.serde_json.specs.Data.{Data, null, boolean, number, string, array, object}
 use Rattle.serde_json.specs.Find.{get, as_object}
 use Rattle.json_value.specs.Values.{IsText, IsWhole, IsFirstOther, elements}
+use Rattle.json_value.proofs.Steps.{first_is, holds_before, holds_at}
 use Rattle.instance_json.specs.Members.{name_of, number_of, IsAt, HasType, numbers_of}
 use Rattle.instance_json.specs.Faults.{HoldsIn, Holds, IsEarlier, IsFirstIn, IsFirstFormFault, OnFaultIn, OnFault, HasForm}
 use Rattle.instance_json.specs.declared.fault.Member.{Member}
@@ -109,12 +107,9 @@ not_missing d k v e f = let h : Some v ≡ None = sym e ∙ f in cc
 not_wrong : (d : Data) (k : Member) (v : Data) → IsAt d k v → HasType k v → ¬ HoldsIn d (WrongType k)
 not_wrong d k v e t (w, at, no') = no' (subst (HasType k) (same_at d k v w e at) t)
 
-whole_at : (ds : List Data) (q : ℕ) (e : Data) → All IsWhole ds → slice_get ds q ≡ Some e → IsWhole e
-whole_at ds q e all is = subst IsWhole (get_or_from_slice_get ds q e e is) (all q e (slice_get_within ds q e is))
-
 not_other : (d : Data) (k : Member) (q : ℕ) (v : Data) → IsAt d k v → All IsWhole (numbers_of k v) → ¬ HoldsIn d (NotInteger k q)
 not_other d k q v e all (w, x, at, is, no') =
-    no' (whole_at (numbers_of k w) q x (subst (λ t. All IsWhole (numbers_of k t)) (same_at d k v w e at) all) is)
+    no' (holds_at IsWhole (numbers_of k w) q x (subst (λ t. All IsWhole (numbers_of k t)) (same_at d k v w e at) all) is)
 
 is_object : (d : Data) (k : Member) (v : Data) → IsAt d k v → ¬ HoldsIn d NotObject
 is_object null k v e f = let h : None ≡ Some v = e in cc
@@ -123,18 +118,6 @@ is_object (number n) k v e f = let h : None ≡ Some v = e in cc
 is_object (string s) k v e f = let h : None ≡ Some v = e in cc
 is_object (array ds) k v e f = let h : None ≡ Some v = e in cc
 is_object (object ms) k v e f = let h : Some ms ≡ None = f in cc
-
--- ---- the first number that isn't whole
-other_at : (ds : List Data) (p : ℕ) → IsFirstOther ds p → (e : Data) × (slice_get ds p ≡ Some e) × ¬ IsWhole e
-other_at ds p (before, e, after, is, all, other, at) =
-    let there : length before < length (before ++ e ∷ after) = omega (arith, length-append before (e ∷ after)) in
-    (e, rw (is, at) (slice_get-get_or (before ++ e ∷ after) (length before) e there ∙ ap (λ t. Some t) (get_or-append_seam before e after e)), other)
-
-other_after : (ds : List Data) (p q : ℕ) (e : Data) → IsFirstOther ds p → q < p → slice_get ds q ≡ Some e → IsWhole e
-other_after ds p q e (before, x, after, is, all, other, at) lt found =
-    let within : q < length before = omega (arith, lt, at) in
-    let here : get_or (before ++ x ∷ after) q e ≡ e = get_or_from_slice_get (before ++ x ∷ after) q e e (subst (λ t. slice_get t q ≡ Some e) is found) in
-    subst IsWhole (sym (get_or_append_left before (x ∷ after) e q within) ∙ here) (all q e within)
 
 -- ---- each kind of fault as the first
 pub first_object : (d : Data) → as_object d ≡ None → IsFirstIn d NotObject
@@ -174,11 +157,11 @@ pub first_other : (d : Data) (m : Member) (p : ℕ) (v : Data) → Below d IsTyp
 first_other d m p v typed below at other = record { holds = holds; first = earlier }
   where
     holds : HoldsIn d (NotInteger m p)
-    holds = let o = other_at (numbers_of m v) p other in (v, o.0, at, o.1, o.2)
+    holds = let o = first_is IsWhole (numbers_of m v) p other in (v, o.0, at, o.1, o.2)
 
     before : (q : ℕ) → q < p → ¬ HoldsIn d (NotInteger m q)
     before q lt (w, e, at', is, no') =
-        no' (other_after (numbers_of m v) p q e other lt (subst (λ t. slice_get (numbers_of m t) q ≡ Some e) (same_at d m w v at' at) is))
+        no' (holds_before IsWhole (numbers_of m v) p q e other lt (subst (λ t. slice_get (numbers_of m t) q ≡ Some e) (same_at d m w v at' at) is))
 
     earlier : (g : Form) → IsEarlier g (NotInteger m p) → ¬ HoldsIn d g
     earlier NotJson e h = h

@@ -40,21 +40,21 @@ rest_none vs i le = ap (map view) (drop_all i vs le)
 
 pub step_more : {X : Type 0} (R : Data → X → Type 0) (f : Data → List Data) (vs : List Value) (i : ℕ) (v : Value) (xs : List X) (x : X) (place n : ℕ)
     → i < length vs → v ≡ get_or vs i v → R (view v) x → All IsWhole (f (view v)) → n ≡ length (f (view v))
-    → Reading R f (map view vs) (map view (drop i vs)) xs place → Reading R f (map view vs) (map view (drop (i + 1) vs)) (xs ++ x ∷ []) (place + n)
+    → Reading IsWhole R f (map view vs) (map view (drop i vs)) xs place → Reading IsWhole R f (map view vs) (map view (drop (i + 1) vs)) (xs ++ x ∷ []) (place + n)
 step_more R f vs i v xs x place n lt e is whole len r =
-    reading_more R f (map view vs) (view v) (map view (drop (i + 1) vs)) xs x place n is whole len
-    (subst (λ rest. Reading R f (map view vs) rest xs place) (rest_more vs i v lt e) r)
+    reading_more IsWhole R f (map view vs) (view v) (map view (drop (i + 1) vs)) xs x place n is whole len
+    (subst (λ rest. Reading IsWhole R f (map view vs) rest xs place) (rest_more vs i v lt e) r)
 
 pub step_other : {X : Type 0} (R : Data → X → Type 0) (f : Data → List Data) (vs : List Value) (i : ℕ) (v : Value) (xs : List X) (place k : ℕ)
     → i < length vs → v ≡ get_or vs i v → IsFirstOther (f (view v)) k
-    → Reading R f (map view vs) (map view (drop i vs)) xs place → IsFirstOther (flat_map f (map view vs)) (place + k)
+    → Reading IsWhole R f (map view vs) (map view (drop i vs)) xs place → IsFirstOther (flat_map f (map view vs)) (place + k)
 step_other R f vs i v xs place k lt e h r =
-    reading_other R f (map view vs) (view v) (map view (drop (i + 1) vs)) xs place k h
-    (subst (λ rest. Reading R f (map view vs) rest xs place) (rest_more vs i v lt e) r)
+    reading_other IsWhole R f (map view vs) (view v) (map view (drop (i + 1) vs)) xs place k h
+    (subst (λ rest. Reading IsWhole R f (map view vs) rest xs place) (rest_more vs i v lt e) r)
 
 pub step_all : {X : Type 0} (R : Data → X → Type 0) (f : Data → List Data) (vs : List Value) (i : ℕ) (xs : List X) (place : ℕ)
-    → length vs ≤ i → Reading R f (map view vs) (map view (drop i vs)) xs place → AllZip R (map view vs) xs
-step_all R f vs i xs place le r = reading_all R f (map view vs) xs place (subst (λ rest. Reading R f (map view vs) rest xs place) (rest_none vs i le) r)
+    → length vs ≤ i → Reading IsWhole R f (map view vs) (map view (drop i vs)) xs place → AllZip R (map view vs) xs
+step_all R f vs i xs place le r = reading_all IsWhole R f (map view vs) xs place (subst (λ rest. Reading IsWhole R f (map view vs) rest xs place) (rest_none vs i le) r)
 
 -- ---- one number
 pub one_whole : (d : Data) (z : ℤ) → IsNumber d z → All IsWhole (d ∷ [])
@@ -149,7 +149,7 @@ not_list P d e (es, is, all) = let h : None ≡ Some (items_of es) = e ∙ is in
 -- the fault of a value, moved by what was read before it, is one of the whole
 pub moved_other : {X : Type 0} (R : Data → X → Type 0) (f : Data → List Data) (vs : List Value) (i : ℕ) (v : Value) (xs : List X) (place : ℕ) (e r : NumberFault)
     → i < length vs → v ≡ get_or vs i v → IsMoved e place r → OnOther e (f (view v))
-    → Reading R f (map view vs) (map view (drop i vs)) xs place → OnOther r (flat_map f (map view vs))
+    → Reading IsWhole R f (map view vs) (map view (drop i vs)) xs place → OnOther r (flat_map f (map view vs))
 moved_other R f vs i v xs place e OutOfMemory lt is moved on r = tt
 moved_other R f vs i v xs place e (NotInteger p) lt is (k, fault, at) on r =
     subst (IsFirstOther (flat_map f (map view vs))) (sym at)

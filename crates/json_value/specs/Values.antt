@@ -44,10 +44,13 @@ list_of (item d ds) = d ∷ list_of ds
 abbrev pub elements : Data → List Data
 elements d = option_map_or list_of (as_array d) []
 
+-- the first element of which P doesn't hold has this place
+abbrev pub IsFirstNot : {X : Type 0} → (X → Type 0) → List X → ℕ → Type 0
+IsFirstNot {X} P xs k = (before : List X) × (x : X) × (after : List X) × (xs ≡ before ++ x ∷ after) × All P before × (¬ P x) × (k ≡ length before)
+
 -- the first of these values that is no whole number has this place
 abbrev pub IsFirstOther : List Data → ℕ → Type 0
-IsFirstOther ds k = (before : List Data) × (d : Data) × (after : List Data) × (ds ≡ before ++ d ∷ after)
-    × All IsWhole before × (¬ IsWhole d) × (k ≡ length before)
+IsFirstOther ds k = IsFirstNot IsWhole ds k
 
 -- ---- pairs of numbers
 -- the value is a list of two
