@@ -1,0 +1,4 @@
+pub mod Faults
+pub mod Independent
+pub mod Scores
+pub mod Steps
