@@ -1,0 +1,4 @@
+pub mod Best
+pub mod BoundExamples
+pub mod Distinct
+pub mod Proved

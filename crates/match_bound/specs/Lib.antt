@@ -1,0 +1,4 @@
+pub mod Matchings
+pub mod Potentials
+pub mod Searches
+pub mod Tables
