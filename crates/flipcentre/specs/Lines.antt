@@ -2,6 +2,9 @@
 use Rattle.std.specs.Prelude.{ℕ, List, [], ◌∷◌, ◌++◌, codes, decimal}
 use Rattle.std.specs.List.{join_with_byte}
 use Rattle.edge_table.specs.declared.edge.Edge.{Edge}
+use Rattle.instance_json.specs.declared.fault.Form.{Form}
+use Rattle.instance_json.specs.declared.fault.Form.TheVariants.{NotJson, NotObject, Missing, WrongType, NotInteger, LengthMismatch}
+use Rattle.instance_json.specs.Members.{name_of}
 use Rattle.tri_check.specs.declared.fault.Bad.{Bad}
 use Rattle.tri_check.specs.declared.fault.Bad.TheVariants.{TooManyPoints, TooManyInputs, TooManyPairs, CoordinateRange, TooFewPoints, RepeatedPoint, Collinear, NoInput, BadVertex, Loop, Blocked, Crossing, LonePoint, OpenSide}
 
@@ -41,3 +44,15 @@ instance_refused fault = codes "refused" ∷ codes "instance" ∷ fault
 
 abbrev pub bad_line : Bad → List ℕ
 bad_line bad = line (instance_refused (bad_words bad))
+
+-- a fault of form: its name and its fields
+abbrev pub form_words : Form → List (List ℕ)
+form_words NotJson = codes "NotJson" ∷ []
+form_words NotObject = codes "NotObject" ∷ []
+form_words (Missing m) = codes "Missing" ∷ name_of m ∷ []
+form_words (WrongType m) = codes "WrongType" ∷ name_of m ∷ []
+form_words (NotInteger m k) = codes "NotInteger" ∷ name_of m ∷ decimal k ∷ []
+form_words (LengthMismatch x y) = codes "LengthMismatch" ∷ decimal x ∷ decimal y ∷ []
+
+abbrev pub form_line : Form → List ℕ
+form_line form = line (instance_refused (form_words form))

@@ -1,9 +1,9 @@
 -- What a run of the program says of the files that its words name.
 use Rattle.std.specs.Prelude.{◌≡◌, ◌⊎◌, ℕ, ◌+◌, ◌<◌, ◌≤◌, List, [], ◌++◌, take, length, Option, Some, None, string_bytes}
 use Rattle.std.specs.FinMap as map
-use Rattle.host_io.specs.Store.{Held, Rose}
+use Rattle.host_io.specs.Store.{Held, Counts, Rose}
 use Rattle.instance_json.specs.declared.fault.Form.{Form}
-use Rattle.instance_json.specs.Faults.{IsFirstFormFault}
+use Rattle.instance_json.specs.Faults.{HasForm, IsFirstFormFault}
 use Rattle.instance_json.specs.Forms.{Spells}
 use Rattle.tri_check.specs.declared.fault.Bad.{Bad}
 use Rattle.tri_check.specs.declared.raw.RawInstance.{RawInstance}
@@ -27,9 +27,9 @@ IsUnheld (Some held) name = map.get held name ≡ None
 
 -- ---- instances
 
--- the bytes spell a valid instance
+-- the bytes have the form of an instance, and spell a valid one
 abbrev pub SpellsValid : List ℕ → RawInstance → Type 0
-SpellsValid bytes raw = Spells bytes raw × IsValid raw.points raw.inputs
+SpellsValid bytes raw = HasForm bytes × Spells bytes raw × IsValid raw.points raw.inputs
 
 -- the line names the first fault of the bytes as an instance: one of their form, or else one of what they spell
 abbrev pub NamesInstanceFault : List ℕ → List ℕ → Type 0
@@ -84,3 +84,7 @@ TellsPart words held old new = (status : Status) × (line : List ℕ) × Says wo
 -- a file wasn't read: reading failed, or the file isn't held
 abbrev pub HasReadCause : List (List ℕ) → Option Held → ℕ → ℕ → Type 0
 HasReadCause words held before now = Rose before now ⊎ ((line : List ℕ) × Says words held ReadFault line)
+
+-- the count is that of one call more at most
+abbrev pub IsOnceAtMost : ℕ → ℕ → Type 0
+IsOnceAtMost before now = (now ≡ before) ⊎ Counts before now

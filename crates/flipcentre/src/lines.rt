@@ -1,8 +1,9 @@
 // The lines that the program prints.
 ghost use Rattle.std.specs.Prelude.{◌≡◌, [], ◌∷◌, decimal, IfOk, string_bytes};
-ghost use Rattle.flipcentre.specs.Lines.{line, instance_refused, valid_line, words_line, bad_line};
+ghost use Rattle.flipcentre.specs.Lines.{line, instance_refused, valid_line, words_line, bad_line, form_line};
 
 use edge_table::Edge;
+use instance_json::Form;
 use std::alloc::{AllocError, Global};
 use tri_check::Bad;
 
@@ -66,4 +67,31 @@ fn open_side_text(alloc: Global, t: u32, e: Edge) -> Result<String, AllocError>
 {
     let (low, high) = (e.low(), e.high());
     format!(in alloc; "refused instance OpenSide {t} {low}-{high}\n")
+}
+
+// A fault with a word.
+fn word_text(alloc: Global, name: &str, word: &str) -> Result<String, AllocError>
+    ensures { IfOk result (λ s. string_bytes s ≡ line (instance_refused (name.now ∷ word.now ∷ []))) }
+{
+    format!(in alloc; "refused instance {name} {word}\n")
+}
+
+// A fault with a word and a number.
+fn place_text(alloc: Global, name: &str, word: &str, place: u64) -> Result<String, AllocError>
+    ensures { IfOk result (λ s. string_bytes s ≡ line (instance_refused (name.now ∷ word.now ∷ decimal place ∷ []))) }
+{
+    format!(in alloc; "refused instance {name} {word} {place}\n")
+}
+
+pub fn form_text(alloc: Global, form: Form) -> Result<String, AllocError>
+    ensures { IfOk result (λ s. string_bytes s ≡ form_line form) }
+{
+    match form {
+        Form::NotJson => String::from_str(alloc, "refused instance NotJson\n"),
+        Form::NotObject => String::from_str(alloc, "refused instance NotObject\n"),
+        Form::Missing(member) => word_text(alloc, "Missing", member.name()),
+        Form::WrongType(member) => word_text(alloc, "WrongType", member.name()),
+        Form::NotInteger(member, place) => place_text(alloc, "NotInteger", member.name(), place),
+        Form::LengthMismatch(x, y) => numbers_text(alloc, "LengthMismatch", x, y),
+    }
 }

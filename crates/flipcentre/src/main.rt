@@ -2,8 +2,34 @@
 #![tactic(auto)]
 
 mod lines;
+mod run;
 mod status;
 mod words;
 
-fn main() {
+use host_io::{DirStore, StdSink};
+use run::run_plain;
+use status::Status;
+use std::env;
+use std::io;
+use std::process::ExitCode;
+
+// The words after the program's name.
+fn command_words(rt: &HostRuntime) -> io::Result<Vec<String>> {
+    let words = env::args(rt)?.skip(1).collect::<Vec<String>>(rt.alloc())?;
+    Ok(words)
+}
+
+fn main(rt: HostRuntime) -> ExitCode {
+    let alloc = rt.alloc();
+    let words = match command_words(&rt) {
+        Ok(words) => words,
+        Err(error) if error.kind() == io::ErrorKind::OutOfMemory => {
+            return ExitCode::from(Status::Memory.number());
+        }
+        // A word that is no text is none of a command.
+        Err(_) => Vec::new(alloc),
+    };
+    let mut store = DirStore::make(&rt);
+    let mut out = StdSink::make(&rt);
+    ExitCode::from(run_plain(alloc, &words, &mut store, &mut out).number())
 }

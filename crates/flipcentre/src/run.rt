@@ -1,0 +1,160 @@
+// The top call: from the words to the status and the printed line.
+ghost use Rattle.std.specs.Prelude.{◌≡◌, ◌≢◌, ◌⊎◌, ◌+◌, ◌≤◌, ℕ, List, length, IfOk, IsErrOf, Some, Ok, string_bytes};
+ghost use Rattle.host_io.specs.Store.{Counts, Rose};
+ghost use Rattle.flipcentre.specs.Lines.{valid_line};
+ghost use Rattle.flipcentre.specs.Words.{Check, texts, IsUnasked};
+ghost use Rattle.flipcentre.specs.Runs.{MayHold, IsUnheld, Says, CheckSays, CommandSays, HasReadCause, IsOnceAtMost, LacksFile, Tells, TellsPart};
+
+use crate::lines::{bad_text, form_text, valid_text, words_text};
+use crate::status::Status;
+use crate::words::{Asked, read_words};
+use host_io::{Bytes, Sink, Store, StoreFail, put_all};
+use instance_json::{InstanceFault, read_instance};
+use std::alloc::{AllocError, Global};
+use tri_check::{CheckFault, Instance};
+
+// What is to be printed, and the status that it stands for.
+#[derive(Debug, Drop)]
+struct Reply {
+    status: Status,
+    line: String,
+}
+
+// Why nothing is printed.
+#[derive(Clone, Copy, Debug, PartialEq, Eq)]
+enum Quiet {
+    Memory,
+    ReadFault,
+}
+
+fn with_line(status: Status, line: Result<String, AllocError>) -> Result<Reply, Quiet>
+    ensures status { IfOk result (λ r. r.status ≡ status) }
+    ensures line { IfOk result (λ r. line ≡ Ok r.line) }
+    ensures memory { IsErrOf result Quiet.ReadFault → ⊥ }
+{
+    match line {
+        Ok(line) => Ok(Reply { status, line }),
+        Err(_) => Err(Quiet::Memory),
+    }
+}
+
+// What `check` says of an instance.
+fn valid_reply(alloc: Global, instance: &Instance) -> Result<Reply, Quiet>
+    ensures says { IfOk result (λ r. (r.status ≡ Status.Done)
+        × (string_bytes r.line ≡ valid_line (length instance.now.points) (length instance.now.inputs))) }
+    ensures memory { IsErrOf result Quiet.ReadFault → ⊥ }
+{
+    with_line(
+        Status::Done,
+        valid_text(alloc, instance.count(), instance.inputs()),
+    )
+}
+
+// What `check` says of the bytes of a file.
+fn check_bytes(alloc: Global, bytes: &[u8]) -> Result<Reply, Quiet>
+    ensures says { IfOk result (λ r. CheckSays bytes.now r.status (string_bytes r.line)) }
+    ensures memory { IsErrOf result Quiet.ReadFault → ⊥ }
+{
+    let raw = match read_instance(alloc, bytes) {
+        Ok(raw) => raw,
+        Err(InstanceFault::Form(form)) => return with_line(Status::Refused, form_text(alloc, form)),
+        Err(InstanceFault::OutOfMemory) => return Err(Quiet::Memory),
+    };
+    match Instance::check(alloc, raw) {
+        Ok(instance) => valid_reply(alloc, &instance),
+        Err(CheckFault::Bad(bad)) => with_line(Status::Refused, bad_text(alloc, bad)),
+        Err(CheckFault::OutOfMemory) => Err(Quiet::Memory),
+    }
+}
+
+// All bytes under a name.
+fn read_file<S: Store>(alloc: Global, store: &mut S, name: &str) -> Result<Bytes, Quiet>
+    ensures held { IfOk result (λ bytes. MayHold (S.held store.old) name.now bytes) }
+    ensures cause { IsErrOf result Quiet.ReadFault → Rose (S.read_faults store.old) (S.read_faults store.new)
+        ⊎ IsUnheld (S.held store.old) name.now }
+    ensures kept { S.held store.new ≡ S.held store.old }
+    ensures writes { S.write_faults store.new ≡ S.write_faults store.old }
+    ensures counted { Counts (S.calls store.old) (S.calls store.new) }
+{
+    match store.read(alloc, name) {
+        Ok(bytes) => Ok(bytes),
+        Err(StoreFail::OutOfMemory) => Err(Quiet::Memory),
+        Err(StoreFail::Failed | StoreFail::NotHeld) => Err(Quiet::ReadFault),
+    }
+}
+
+// What `check` says of a file.
+fn check_file<S: Store>(alloc: Global, store: &mut S, name: &str) -> Result<Reply, Quiet>
+    ensures says { IfOk result (λ r. CommandSays (S.held store.old) (Check name.now) r.status (string_bytes r.line)) }
+    ensures cause { IsErrOf result Quiet.ReadFault → Rose (S.read_faults store.old) (S.read_faults store.new)
+        ⊎ LacksFile (S.held store.old) (Check name.now) }
+    ensures kept { S.held store.new ≡ S.held store.old }
+    ensures writes { S.write_faults store.new ≡ S.write_faults store.old }
+    ensures counted { Counts (S.calls store.old) (S.calls store.new) }
+{
+    let bytes = read_file(alloc, store, name)?;
+    check_bytes(alloc, bytes.as_slice())
+}
+
+// What the words and the files call for.
+fn reply_to<S: Store>(alloc: Global, words: &[String], store: &mut S) -> Result<Reply, Quiet>
+    ensures says { IfOk result (λ r. Says (texts words.now) (S.held store.old) r.status (string_bytes r.line)) }
+    ensures cause { IsErrOf result Quiet.ReadFault
+        → HasReadCause (texts words.now) (S.held store.old) (S.read_faults store.old) (S.read_faults store.new) }
+    ensures kept { S.held store.new ≡ S.held store.old }
+    ensures writes { S.write_faults store.new ≡ S.write_faults store.old }
+    ensures calls { IsOnceAtMost (S.calls store.old) (S.calls store.new) }
+    ensures uncalled { IsUnasked (texts words.now) → S.calls store.new ≡ S.calls store.old }
+{
+    match read_words(words) {
+        None => with_line(Status::Words, words_text(alloc)),
+        Some(Asked::Check { instance }) => check_file(alloc, store, instance),
+    }
+}
+
+/// Does what the words ask for: reads the files that they name from the store, and puts one line.
+///
+/// `words` are those after the program's name.
+pub fn run_plain<S: Store, O: Sink>(alloc: Global, words: &[String], store: &mut S, out: &mut O) -> Status
+    // 0: what the command asks of the files holds, and the line that says so was put.
+    ensures done { result ≡ Status.Done
+        → Tells (texts words.now) (S.held store.old) Status.Done (O.told out.old) (O.told out.new) }
+    // 1: exactly by the words, which alone decide.
+    ensures words { result ≡ Status.Words
+        → Tells (texts words.now) (S.held store.old) Status.Words (O.told out.old) (O.told out.new) }
+    // 2: a file has a fault, and the line that names the first one was put.
+    ensures refused { result ≡ Status.Refused
+        → Tells (texts words.now) (S.held store.old) Status.Refused (O.told out.old) (O.told out.new) }
+    // 3 and 7: by no command so far.
+    ensures no_budget { result ≢ Status.FlipBudget }
+    ensures no_certificate { result ≢ Status.No }
+    // 4: free, and nothing was put.
+    ensures memory { result ≡ Status.Memory → O.told out.new ≡ O.told out.old }
+    // 5: a read fault was counted, or a telling store doesn't hold a name; nothing was put.
+    ensures read_fault { result ≡ Status.ReadFault
+        → HasReadCause (texts words.now) (S.held store.old) (S.read_faults store.old) (S.read_faults store.new) }
+    ensures read_fault_told { result ≡ Status.ReadFault → O.told out.new ≡ O.told out.old }
+    // 6: a fault of the sink was counted, and a first part of another status's line was put.
+    ensures write_fault { result ≡ Status.WriteFault → Rose (O.faults out.old) (O.faults out.new) }
+    ensures write_fault_told { result ≡ Status.WriteFault
+        → TellsPart (texts words.now) (S.held store.old) (O.told out.old) (O.told out.new) }
+
+    // The store's names stay, and it is called at most once, and not where the words are those of no command.
+    ensures kept { S.held store.new ≡ S.held store.old }
+    ensures writes { S.write_faults store.new ≡ S.write_faults store.old }
+    ensures calls { IsOnceAtMost (S.calls store.old) (S.calls store.new) }
+    ensures uncalled { IsUnasked (texts words.now) → S.calls store.new ≡ S.calls store.old }
+{
+    let reply = match reply_to(alloc, words, store) {
+        Ok(reply) => reply,
+        Err(Quiet::Memory) => return Status::Memory,
+        Err(Quiet::ReadFault) => return Status::ReadFault,
+    };
+    match put_all(out, reply.line.as_bytes()) {
+        Ok(()) => reply.status,
+        Err(_) => Status::WriteFault,
+    }
+}
+
+#[cfg(test)]
+mod tests;
