@@ -88,3 +88,9 @@ HasReadCause words held before now = Rose before now ⊎ ((line : List ℕ) × S
 -- the count is that of one call more at most
 abbrev pub IsOnceAtMost : ℕ → ℕ → Type 0
 IsOnceAtMost before now = (now ≡ before) ⊎ Counts before now
+
+-- where the store tells what it holds, and neither a fault of reading nor one of the sink was counted, the run ends as the words and the files call for, or for want of memory
+abbrev pub Completes : List (List ℕ) → Option Held → ℕ → ℕ → ℕ → ℕ → Status → Type 0
+Completes words held reads_before reads_now puts_before puts_now result =
+    (told : Held) (status : Status) (line : List ℕ) → held ≡ Some told → Says words (Some told) status line → ¬ Rose reads_before reads_now → ¬ Rose puts_before puts_now
+    → (result ≡ status) ⊎ (result ≡ Memory)

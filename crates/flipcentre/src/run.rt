@@ -3,7 +3,7 @@ ghost use Rattle.std.specs.Prelude.{◌≡◌, ◌≢◌, ◌⊎◌, ◌+◌, �
 ghost use Rattle.host_io.specs.Store.{Counts, Rose};
 ghost use Rattle.flipcentre.specs.Lines.{valid_line};
 ghost use Rattle.flipcentre.specs.Words.{Check, texts, IsUnasked};
-ghost use Rattle.flipcentre.specs.Runs.{MayHold, IsUnheld, Says, CheckSays, CommandSays, HasReadCause, IsOnceAtMost, LacksFile, Tells, TellsPart};
+ghost use Rattle.flipcentre.specs.Runs.{MayHold, IsUnheld, Says, CheckSays, CommandSays, HasReadCause, IsOnceAtMost, Completes, LacksFile, Tells, TellsPart};
 
 use crate::lines::{bad_text, form_text, valid_text, words_text};
 use crate::status::Status;
@@ -101,6 +101,7 @@ fn reply_to<S: Store>(alloc: Global, words: &[String], store: &mut S) -> Result<
     ensures says { IfOk result (λ r. Says (texts words.now) (S.held store.old) r.status (string_bytes r.line)) }
     ensures cause { IsErrOf result Quiet.ReadFault
         → HasReadCause (texts words.now) (S.held store.old) (S.read_faults store.old) (S.read_faults store.new) }
+    ensures asked { IsErrOf result Quiet.ReadFault → ¬ IsUnasked (texts words.now) }
     ensures kept { S.held store.new ≡ S.held store.old }
     ensures writes { S.write_faults store.new ≡ S.write_faults store.old }
     ensures calls { IsOnceAtMost (S.calls store.old) (S.calls store.new) }
@@ -139,6 +140,12 @@ pub fn run_plain<S: Store, O: Sink>(alloc: Global, words: &[String], store: &mut
     ensures write_fault_told { result ≡ Status.WriteFault
         → TellsPart (texts words.now) (S.held store.old) (O.told out.old) (O.told out.new) }
 
+    // Nothing else ends a run: where the store tells what it holds and no fault is counted, the status is the one that the words and the files call for, if there is memory.
+    ensures complete { Completes (texts words.now) (S.held store.old) (S.read_faults store.old) (S.read_faults store.new)
+        (O.faults out.old) (O.faults out.new) result }
+    ensures words_decide { IsUnasked (texts words.now) → ¬ Rose (O.faults out.old) (O.faults out.new)
+        → (result ≡ Status.Words) ⊎ (result ≡ Status.Memory) }
+
     // The store's names stay, and it is called at most once, and not where the words are those of no command.
     ensures kept { S.held store.new ≡ S.held store.old }
     ensures writes { S.write_faults store.new ≡ S.write_faults store.old }
@@ -151,9 +158,10 @@ pub fn run_plain<S: Store, O: Sink>(alloc: Global, words: &[String], store: &mut
         Err(Quiet::ReadFault) => return Status::ReadFault,
     };
     match put_all(out, reply.line.as_bytes()) {
-        Ok(()) => reply.status,
-        Err(_) => Status::WriteFault,
+        Ok(()) => {}
+        Err(_) => return Status::WriteFault,
     }
+    reply.status
 }
 
 #[cfg(test)]

@@ -1,2 +1,3 @@
 pub mod Firsts
+pub mod Once
 pub mod Raws

@@ -33,3 +33,7 @@ pub record Spells (bytes : List ℕ) (raw : RawInstance) : Type 0 where
   pub value : Data
   pub text : IsText bytes value
   pub is : IsRaw value raw
+
+-- a text spells one raw instance at most
+abbrev pub TextsSpellOnce : Type 0
+TextsSpellOnce = (bytes : List ℕ) (r s : RawInstance) → Spells bytes r → Spells bytes s → r ≡ s

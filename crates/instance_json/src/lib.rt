@@ -5,7 +5,7 @@ mod fault;
 mod read;
 
 pub use fault::{Form, InstanceFault, Member};
-pub use read::read_instance;
+pub use read::{laws, read_instance};
 
 #[cfg(test)]
 mod tests;

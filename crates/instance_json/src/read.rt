@@ -7,7 +7,7 @@ ghost use Rattle.serde_json.specs.View.{view};
 ghost use Rattle.json_value.specs.Values.{IsList, IsListOf, IsNumber, IsPair, IsPairOf, Lists, numbers_of_pairs};
 ghost use Rattle.instance_json.specs.Members.{name_of, IsAt, HasType};
 ghost use Rattle.instance_json.specs.Faults.{OnFault, OnFaultIn, HasForm, IsOther};
-ghost use Rattle.instance_json.specs.Forms.{HasMembers, HasLists, IsRaw, Spells};
+ghost use Rattle.instance_json.specs.Forms.{TextsSpellOnce, HasMembers, HasLists, IsRaw, Spells};
 
 use crate::{Form, InstanceFault, Member};
 use geo_orient::Point;
@@ -15,6 +15,12 @@ use json_value::{NumberFault, ParseFault};
 use serde_json::Value;
 use std::alloc::{AllocError, Global};
 use tri_check::{PointList, RawInputs, RawInstance, Uid};
+
+/// The law of spelling.
+pub fn laws()
+    ensures { TextsSpellOnce }
+{
+}
 
 /// The instance that a text of JSON spells. Time and memory grow with the length of the text.
 pub fn read_instance(alloc: Global, bytes: &[u8]) -> Result<RawInstance, InstanceFault>

@@ -1,0 +1,70 @@
+-- A text spells one raw instance at most.
+use Rattle.std.proofs.Common.{◌≡◌, ◌∙◌, sym, ap, ap₂, refl, subst, ℕ, ℤ, List, [], ◌∷◌, map, drop, Some, Option, unwrap_or, slice_index_or}
+use Rattle.std.specs.List.{AllZip}
+use Rattle.geo_orient.specs.declared.Point.{Point}
+use Rattle.serde_json.specs.Data.{Data}
+use Rattle.serde_json.specs.Find.{as_str}
+use Rattle.tri_check.specs.declared.raw.RawPair.{RawPair}
+use Rattle.tri_check.specs.declared.raw.RawInstance.{RawInstance}
+use Rattle.json_value.specs.Values.{IsText, IsNumber, IsList, IsPairOf, Lists}
+use Rattle.json_value.proofs.Steps.{same_list}
+use Rattle.instance_json.specs.declared.fault.Member.{Member}
+use Rattle.instance_json.specs.declared.fault.Member.TheVariants.{Uid, PointsX, PointsY, Triangulations}
+use Rattle.instance_json.specs.Members.{IsAt}
+use Rattle.instance_json.specs.Forms.{IsRaw, Spells}
+
+some_once : {X : Type 0} (x y : X) → Some x ≡ Some y → x ≡ y
+some_once x y e = ap (λ o. unwrap_or o x) e
+
+-- a relation that gives each value one thing at most gives each list one list at most
+zip_once : {X Y : Type 0} (R : X → Y → Type 0) → ((x : X) (y z : Y) → R x y → R x z → y ≡ z) → (xs : List X) (ys zs : List Y) → AllZip R xs ys → AllZip R xs zs → ys ≡ zs
+zip_once R once [] [] [] u v = refl
+zip_once R once [] (y ∷ ys) zs u v = absurd u
+zip_once R once [] [] (z ∷ zs) u v = absurd v
+zip_once R once (x ∷ xs) [] zs u v = absurd u
+zip_once R once (x ∷ xs) (y ∷ ys) [] u v = absurd v
+zip_once R once (x ∷ xs) (y ∷ ys) (z ∷ zs) u v = ap₂ (λ first rest. first ∷ rest) (once x y z u.0 v.0) (zip_once R once xs ys zs u.1 v.1)
+
+lists_once : {X : Type 0} (R : Data → X → Type 0) → ((d : Data) (x y : X) → R d x → R d y → x ≡ y) → (d : Data) (xs ys : List X) → Lists R d xs → Lists R d ys → xs ≡ ys
+lists_once R once d xs ys (es, l, z) (fs, m, w) = zip_once R once es xs ys z (subst (λ gs. AllZip R gs ys) (sym (same_list d es fs l m)) w)
+
+number_once : (d : Data) (z w : ℤ) → IsNumber d z → IsNumber d w → z ≡ w
+number_once d z w e f = some_once z w (sym e ∙ f)
+
+pair_once : (d : Data) (p q : RawPair) → IsPairOf d p → IsPairOf d q → p ≡ q
+pair_once d p q (a, b, l, m, n) (e, f, k, g, h) =
+    let same = same_list d (a ∷ b ∷ []) (e ∷ f ∷ []) l k in
+    let first : a ≡ e = ap (λ ds. slice_index_or ds 0 a) same in
+    let second : b ≡ f = ap (λ ds. slice_index_or ds 1 b) same in
+    ap₂ (λ x y. let pair : RawPair = record { a = x; b = y } in pair)
+    (number_once a p.a q.a m (subst (λ c. IsNumber c q.a) (sym first) g))
+    (number_once b p.b q.b n (subst (λ c. IsNumber c q.b) (sym second) h))
+
+-- points are their coordinates
+points_once : (ps qs : List Point) → map (λ (p : Point). p.x) ps ≡ map (λ (p : Point). p.x) qs → map (λ (p : Point). p.y) ps ≡ map (λ (p : Point). p.y) qs → ps ≡ qs
+points_once [] [] e f = refl
+points_once [] (q ∷ qs) e f = cc
+points_once (p ∷ ps) [] e f = cc
+points_once (p ∷ ps) (q ∷ qs) e f =
+    ap₂ (λ first rest. first ∷ rest)
+    (ap₂ (λ a b. let point : Point = record { x = a; y = b } in point) (ap (λ zs. slice_index_or zs 0 p.x) e) (ap (λ zs. slice_index_or zs 0 p.y) f))
+    (points_once ps qs (ap (λ zs. drop 1 zs) e) (ap (λ zs. drop 1 zs) f))
+
+-- the value at a member is one
+at_once : (P : Data → Type 0) (d : Data) (m : Member) (v w : Data) → IsAt d m v → IsAt d m w → P w → P v
+at_once P d m v w e f p = subst P (sym (some_once v w (sym e ∙ f))) p
+
+raw_once : (d : Data) (r s : RawInstance) → IsRaw d r → IsRaw d s → r ≡ s
+raw_once d r s a b =
+    let uid = some_once r.uid s.uid (sym a.uid.2 ∙ at_once (λ v. as_str v ≡ Some s.uid) d Uid a.uid.0 b.uid.0 a.uid.1 b.uid.1 b.uid.2) in
+    let xs = lists_once IsNumber number_once a.xs.0 _ _ a.xs.2 (at_once (λ v. Lists IsNumber v (map (λ (p : Point). p.x) s.points)) d PointsX a.xs.0 b.xs.0 a.xs.1 b.xs.1 b.xs.2) in
+    let ys = lists_once IsNumber number_once a.ys.0 _ _ a.ys.2 (at_once (λ v. Lists IsNumber v (map (λ (p : Point). p.y) s.points)) d PointsY a.ys.0 b.ys.0 a.ys.1 b.ys.1 b.ys.2) in
+    let inputs = lists_once (Lists IsPairOf) (lists_once IsPairOf pair_once) a.inputs.0 r.inputs s.inputs a.inputs.2 (at_once (λ v. Lists (Lists IsPairOf) v s.inputs) d Triangulations a.inputs.0 b.inputs.0 a.inputs.1 b.inputs.1 b.inputs.2) in
+    ap (λ u. record r { uid = u }) uid
+    ∙ (ap (λ ps. record r { uid = s.uid; points = ps }) (points_once r.points s.points xs ys)
+    ∙ ap (λ is. record r { uid = s.uid; points = s.points; inputs = is }) inputs)
+
+pub spelled_once : (bytes : List ℕ) (r s : RawInstance) → Spells bytes r → Spells bytes s → r ≡ s
+spelled_once bytes r s a b =
+    let same = some_once a.value b.value (sym a.text.1 ∙ b.text.1) in
+    raw_once a.value r s a.is (subst (λ d. IsRaw d s) (sym same) b.is)
