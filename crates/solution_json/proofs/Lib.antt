@@ -1,0 +1,4 @@
+pub mod Firsts
+pub mod Schedules
+pub mod Whole
+pub mod Written

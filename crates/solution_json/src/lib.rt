@@ -1,0 +1,16 @@
+//! Solutions as JSON texts.
+#![tactic(auto)]
+
+mod edges;
+mod fault;
+mod read;
+mod solution;
+mod write;
+
+pub use fault::{SolForm, SolMember, SolutionFault};
+pub use read::read_solution;
+pub use solution::Solution;
+pub use write::solution_text;
+
+#[cfg(test)]
+mod tests;
