@@ -1,4 +1,5 @@
 pub mod Faults
 pub mod Independent
+pub mod Laws
 pub mod Scores
 pub mod Steps

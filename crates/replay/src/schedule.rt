@@ -27,7 +27,7 @@ fn after_round(alloc: Global, now: &Triang, r: u64, round: &EdgeSeq) -> Result<T
 }
 
 /// Where rounds of flips lead from a triangulation, or their first fault. An edge that a round names twice is a fault.
-/// Takes time in the number of edges times that of points for each flip.
+/// Takes time in the number of edges times that of points for each flip, and in the square of the number of flips for each round.
 pub fn replay(alloc: Global, start: &Triang, rounds: &Rounds) -> Result<Triang, ReplayFault>
     ensures points { IfOk result (λ end. end.points ≡ start.now.points) }
     ensures ok { IfOk result (λ end. AreRoundsOf start.now.points start.now.edges rounds.now end.edges) }

@@ -4,7 +4,7 @@ ghost use Rattle.tri_theory.specs.Rounds.{IsPlan, total};
 ghost use Rattle.replay.specs.Scores.{LeadsTo, AllLead, AreAllDistinct, IsScoreFault, IsEndFault, IsCentre, IsApart, IsNextApart};
 
 use crate::{ReplayFault, ScoreFault, replay};
-use edge_table::RoundsList;
+use edge_table::{Rounds, RoundsList};
 use std::alloc::Global;
 use tri_check::{Instance, Triang};
 
@@ -15,13 +15,20 @@ pub struct Scored {
     pub centre: Triang,
 }
 
+// The number of rounds, empty ones among them.
+fn cost(rounds: &Rounds) -> u64
+    ensures { result ≡ length rounds.now }
+{
+    rounds.len() as u64
+}
+
 // The number of rounds of all lists together.
 fn total(lists: &RoundsList) -> u128
     ensures { result ≡ total lists.now }
 {
     let mut sum: u128 = 0;
     for t in 0..lists.len() {
-        sum += lists.at(t).len() as u128;
+        sum += u128::from(cost(lists.at(t)));
     }
     sum
 }
@@ -89,7 +96,7 @@ fn centre_of(alloc: Global, inst: &Instance, lists: &RoundsList) -> Result<Trian
     }
 }
 
-/// The score of one list of rounds for each input, or the first fault. Takes time in the number of edges times that of points for each flip.
+/// The score of one list of rounds for each input, or the first fault. Takes the time of a replay of each list.
 pub fn score(alloc: Global, inst: &Instance, lists: &RoundsList) -> Result<Scored, ScoreFault>
     ensures total { IfOk result (λ scored. scored.total ≡ total lists.now) }
     ensures points { IfOk result (λ scored. scored.centre.points ≡ inst.now.points) }

@@ -10,12 +10,12 @@ loop-t-preserved c =
     let more : total (take (c.loop-t.t + 1) c.args.lists.now) ≡ total (take c.loop-t.t c.args.lists.now) + length c.at.result.now =
     ap total (take_push c.args.lists.now c.loop-t.t c.at.result.now (omega (arith, c.len-t-end.ensures, c.loop-t-test.true)) (read_at c.args.lists.now c.loop-t.t c.at.result.now c.at.ensures)) ∙ total_push (take c.loop-t.t c.args.lists.now) c.at.result.now in
     record {
-      exact = ap₂ ◌+◌ c.loop-t.invariant.exact c.len.ensures ∙ sym more;
-      small = omega (arith, c.loop-t.invariant.small, c.len.type_inv);
+      exact = ap₂ ◌+◌ c.loop-t.invariant.exact (c.from-sum.ensures ∙ c.cost.ensures) ∙ sym more;
+      small = omega (arith, c.loop-t.invariant.small, c.from-sum.ensures, c.cost.type_inv);
     }
 
 pub overflow_add-sum : goal.overflow_add-sum
-overflow_add-sum c = omega (arith, c.loop-t.invariant.small, c.len.type_inv, c.loop-t-test.true, c.len-t-end.type_inv)
+overflow_add-sum c = omega (arith, c.loop-t.invariant.small, c.from-sum.ensures, c.cost.type_inv, c.loop-t-test.true, c.len-t-end.type_inv)
 
 pub returns : goal.returns
 returns c = c.loop-t.invariant.exact ∙ ap total (take_all c.loop-t.t c.args.lists.now (omega (arith, c.len-t-end.ensures, c.loop-t-test.false)))
