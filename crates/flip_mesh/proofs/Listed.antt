@@ -16,6 +16,7 @@ use Rattle.flip_mesh.specs.Build.{AddsFlip, AreFlippable}
 use Rattle.side_table.proofs.Ordered.{here, later, cases}
 use Rattle.side_table.proofs.Ordered.{way}
 use Rattle.flip_mesh.proofs.Meshes.{edges_from}
+use Rattle.flip_mesh.proofs.Quads.{quad_flips}
 
 -- ---- one edge more at the end
 pub pushed_cases : (es : List Edge) (e f : Edge) → Contains (es ++ e ∷ []) f → Contains es f ⊎ (f ≡ e)
@@ -126,7 +127,7 @@ pub flip_added : (points : List Point) (edges list new : List Edge) (s : Side) (
 flip_added points edges list new s e q l is h n =
     inr (
       l,
-      subst (Flips points edges) (at_side s e l is) (edge q.b q.d, (q.a, q.b, q.c, q.d, h.ends ∙ sym (edge_of (q.a, q.c) h.low_first), refl, h.corners)),
+      subst (Flips points edges) (at_side s e l is) (quad_flips points edges e q h),
       subst (λ f. new ≡ list ++ f ∷ []) (at_side s e l is) n,
     )
 

@@ -7,3 +7,6 @@ mod search;
 mod turn;
 
 pub use mesh::{Mesh, Quad, Wings};
+
+#[cfg(test)]
+mod tests;

@@ -143,6 +143,7 @@ impl Mesh {
     pub fn quad(&self, e: Edge) -> Option<Quad>
         ensures none { IfNone result (¬ Flips self.now.points self.now.edges e) }
         ensures some { IfSome result (IsQuadAt self.now.points self.now.edges e) }
+        ensures flips { IfSome result (λ _. Flips self.now.points self.now.edges e) }
     {
         let _ = &self.sides;
         let a = e.low();

@@ -22,6 +22,18 @@ fn put(sides: &mut SideTable, u: u32, v: u32, from: u32, to: u32, apex: u32)
     );
 }
 
+// Gives the way from `from` to `to` another third corner.
+fn set(sides: &mut SideTable, from: u32, to: u32, apex: u32)
+    requires { HasSide sides.old from to }
+    ensures { PutsSide sides.old sides.new from to (side from to (Some apex)) }
+{
+    sides.set(Side {
+        from,
+        to,
+        apex: Some(apex),
+    });
+}
+
 // The triangles `a`, `b`, `d` and `b`, `c`, `d` in place of `a`, `b`, `c` and `a`, `c`, `d`.
 pub(crate) fn turn(sides: &mut SideTable, a: u32, b: u32, c: u32, d: u32)
     requires { CanTurn sides.old a b c d }
@@ -29,8 +41,8 @@ pub(crate) fn turn(sides: &mut SideTable, a: u32, b: u32, c: u32, d: u32)
 {
     put(sides, a, c, b, d, a);
     put(sides, c, a, d, b, c);
-    put(sides, a, b, a, b, d);
-    put(sides, b, c, b, c, d);
-    put(sides, c, d, c, d, b);
-    put(sides, d, a, d, a, b);
+    set(sides, a, b, d);
+    set(sides, b, c, d);
+    set(sides, c, d, b);
+    set(sides, d, a, b);
 }

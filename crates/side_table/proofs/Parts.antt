@@ -7,7 +7,7 @@ use Rattle.edge_table.proofs.Edges.{pair}
 use Rattle.edge_table.proofs.Ascending.{before_joins, not_before_itself, before_cases}
 use Rattle.side_table.specs.declared.side.Side.{Side}
 use Rattle.side_table.specs.Sides.{side, IsWay, HasSide}
-use Rattle.side_table.specs.Trees.{IsRest, IsPlaced}
+use Rattle.side_table.specs.Trees.{IsRest, IsPlaced, IsSet}
 use Rattle.side_table.proofs.Ordered.{way, in_front, in_middle, in_after, three_cases, Parts}
 
 pub way_is : (s : Side) (u v : ℕ) → IsWay s u v → way s ≡ (u, v)
@@ -107,6 +107,30 @@ module _ (all l : List Side) (s : Side) (r : List Side) (p : Parts all l s r) wh
     way = h.way;
     was = p.is ∙ ap (λ m. m ++ s ∷ r) h.was ∙ append_assoc h.before (h.taken ∷ h.after) (s ∷ r);
     rest = ap (λ m. m ++ s ∷ r) h.rest ∙ append_assoc h.before h.after (s ∷ r);
+  }
+
+  -- ---- putting another in its place
+  pub set_middle : (t : Side) → IsWay s t.from t.to → IsSet all (l ++ t ∷ r) t
+  set_middle t w = record { before = l; taken = s; after = r; way = w; was = p.is; set = refl }
+
+  pub set_right : (t : Side) (new : List Side) → IsSet r new t → IsSet all (l ++ s ∷ new) t
+  set_right t new h = record {
+    before = l ++ s ∷ h.before;
+    taken = h.taken;
+    after = h.after;
+    way = h.way;
+    was = p.is ∙ ap (λ m. l ++ s ∷ m) h.was ∙ sym (append_assoc l (s ∷ h.before) (h.taken ∷ h.after));
+    set = ap (λ m. l ++ s ∷ m) h.set ∙ sym (append_assoc l (s ∷ h.before) (t ∷ h.after));
+  }
+
+  pub set_left : (t : Side) (new : List Side) → IsSet l new t → IsSet all (new ++ s ∷ r) t
+  set_left t new h = record {
+    before = h.before;
+    taken = h.taken;
+    after = h.after ++ s ∷ r;
+    way = h.way;
+    was = p.is ∙ ap (λ m. m ++ s ∷ r) h.was ∙ append_assoc h.before (h.taken ∷ h.after) (s ∷ r);
+    set = ap (λ m. m ++ s ∷ r) h.set ∙ append_assoc h.before (t ∷ h.after) (s ∷ r);
   }
 
   -- ---- adding a side

@@ -5,7 +5,7 @@ use Rattle.edge_table.specs.Edges.{IsBefore}
 use Rattle.edge_table.proofs.Ascending.{not_before_itself}
 use Rattle.side_table.specs.declared.side.Side.{Side}
 use Rattle.side_table.specs.Sides.{side, IsWay, HasSide, IsOrderedSides, AddsSide, PutsSide}
-use Rattle.side_table.specs.Trees.{IsRest, IsPlaced}
+use Rattle.side_table.specs.Trees.{IsRest, IsPlaced, IsSet}
 use Rattle.side_table.proofs.Ordered.{way, in_front, in_back, in_middle, in_after, three_cases, front, back, across, joined, cons, tail, head, Parts, parts}
 use Rattle.side_table.proofs.Parts.{way_is}
 
@@ -91,3 +91,18 @@ puts old rest new u v t up h g =
     back_again : (s : Side) → (Contains old s × ¬ IsWay s u v) ⊎ (s ≡ t) → Contains rest s ⊎ (s ≡ t)
     back_again s (inl k) = inl ((rest_members old rest u v up h s).1 k)
     back_again s (inr e) = inr e
+
+-- a side comes in the place of another on its way
+pub sets : (old new : List Side) (t : Side) → IsOrderedSides old → IsSet old new t → PutsSide old new t.from t.to t
+sets old new t up h =
+    let p = parts old h.before h.taken h.after h.was up in
+    puts old (h.before ++ h.after) new t.from t.to t up
+    (record { before = h.before; taken = h.taken; after = h.after; way = h.way; was = h.was; rest = refl })
+    (record {
+      before = h.before;
+      after = h.after;
+      was = refl;
+      placed = h.set;
+      below = λ s k. subst (IsBefore (way s)) (way_is h.taken t.from t.to h.way) (p.below s k);
+      above = λ s k. subst (λ w. IsBefore w (way s)) (way_is h.taken t.from t.to h.way) (p.above s k);
+    })

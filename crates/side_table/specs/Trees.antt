@@ -28,3 +28,12 @@ pub record IsPlaced (old new : List Side) (t : Side) : Type 0 where
   pub placed : new ≡ before ++ t ∷ after
   pub below : (s : Side) → Contains before s → IsBefore (s.from, s.to) (t.from, t.to)
   pub above : (s : Side) → Contains after s → IsBefore (t.from, t.to) (s.from, s.to)
+
+-- t stands in the new list where another side on its way stood in the old one
+pub record IsSet (old new : List Side) (t : Side) : Type 0 where
+  pub before : List Side
+  pub taken : Side
+  pub after : List Side
+  pub way : IsWay taken t.from t.to
+  pub was : old ≡ before ++ taken ∷ after
+  pub set : new ≡ before ++ t ∷ after

@@ -11,7 +11,7 @@ use std::mem;
 
 /// The sides of a mesh, seen as the list of them that is ordered as edges are: by where they come from, then by where they go to.
 ///
-/// They are kept in a balanced search tree, whose two sides at a node differ in height by at most two levels.
+/// They are kept in a balanced search tree, in which the two sides of a node differ in height by at most one level.
 #[derive(Drop)]
 pub struct SideTable {
     tree: Tree,
@@ -86,6 +86,14 @@ impl SideTable {
         let tree = mem::replace(&mut self.tree, Tree::new());
         let rest = tree.remove(u, v);
         self.tree = rest.tree.insert(t, rest.node);
+    }
+
+    /// Puts `t` in the place of the side on the same way, in O(log n) steps and faster than `put`. It takes no memory.
+    pub fn set(&mut self, t: Side)
+        requires { HasSide self.old t.from t.to }
+        ensures { PutsSide self.old self.new t.from t.to t }
+    {
+        self.tree.set(t);
     }
 
     /// The sides in order, in O(n) steps.

@@ -2,7 +2,7 @@
 ghost use Rattle.std.specs.Prelude.{◌≡◌, ℕ, [], ◌∷◌, ◌++◌, MatchOption, IfOk, OnOk, Contains};
 ghost use Rattle.side_table.specs.declared.side.Side.{Side};
 ghost use Rattle.side_table.specs.Sides.{HasSide, IsWay, IsOrderedSides};
-ghost use Rattle.side_table.specs.Trees.{IsRest, IsPlaced};
+ghost use Rattle.side_table.specs.Trees.{IsRest, IsPlaced, IsSet};
 
 use crate::Side;
 use std::alloc::{AllocError, Global};
@@ -269,6 +269,28 @@ impl Tree {
                     let left = o.left.insert(t, node);
                     balance(left, o.side, o.right, o.node)
                 }
+            }
+        }
+    }
+
+    // Puts a side in the place of that on the same way.
+    pub(crate) fn set(&mut self, t: Side)
+        requires ordered { IsOrderedSides self.old }
+        requires there { HasSide self.old t.from t.to }
+        ensures { IsSet self.old self.new t }
+    {
+        match &mut self.root {
+            None => unreachable!(),
+            Some(node) => {
+                if node.side.is_way(t.from, t.to) {
+                    node.side = t;
+                    return;
+                }
+                if node.side.comes_before(t.from, t.to) {
+                    node.right.set(t);
+                    return;
+                }
+                node.left.set(t);
             }
         }
     }
