@@ -1,18 +1,18 @@
 -- The faults of an input, kind by kind: what each search finds is the first fault, and what it doesn't find isn't there.
-use Rattle.std.proofs.Common.{◌≡◌, ◌⊎◌, inl, inr, ◌↔◌, ℕ, ◌<◌, ◌≤◌, pos, unsigned_abs, List, [], ◌∷◌, map, length, get_or, Contains, Some, slice_get, slice_index_or, refl, sym, ap, ap₂, ◌∙◌, subst, arith}
+use Rattle.std.proofs.Common.{◌≡◌, ◌⊎◌, inl, inr, ℕ, ◌<◌, pos, unsigned_abs, List, [], ◌∷◌, map, length, Contains, Some, slice_get, slice_index_or, refl, sym, ap, ap₂, ◌∙◌, subst, arith}
 use Rattle.std.proofs.lemmas.Option.{slice_get_within, slice_get-get_or, get_or_from_slice_get}
 use Rattle.geo_orient.specs.declared.Point.{Point}
 use Rattle.edge_table.specs.declared.edge.Edge.{Edge}
-use Rattle.edge_table.specs.Edges.{edge, IsBefore}
+use Rattle.edge_table.specs.Edges.{IsBefore}
 use Rattle.edge_table.proofs.Edges.{pair}
 use Rattle.edge_table.proofs.Ascending.{same_members}
 use Rattle.tri_theory.specs.Points.{Separates}
 use Rattle.tri_theory.specs.Triangulations.{AreJoined}
-use Rattle.tri_theory.specs.Inputs.{IsCompleted, IsHullSegment}
+use Rattle.tri_theory.specs.Inputs.{IsCompleted}
 use Rattle.tri_check.specs.declared.raw.RawPair.{RawPair}
 use Rattle.tri_check.specs.declared.fault.Bad.{Bad}
-use Rattle.tri_check.specs.declared.fault.Bad.TheVariants.{TooManyPoints, TooManyInputs, TooManyPairs, CoordinateRange, TooFewPoints, RepeatedPoint, Collinear, NoInput, BadVertex, Loop, Blocked, Crossing, LonePoint, OpenSide}
-use Rattle.tri_check.specs.Faults.{NamesPoint, IsPairAt, IsListed, IsCompletedInput, HasMembers, Holds, IsFirstFault}
+use Rattle.tri_check.specs.declared.fault.Bad.TheVariants.{BadVertex, Loop, Blocked, Crossing, LonePoint, OpenSide}
+use Rattle.tri_check.specs.Faults.{NamesPoint, IsPairAt, IsCompletedInput, HasMembers, Holds, IsFirstFault}
 use Rattle.tri_check.specs.Stages.{IsLeast, IsNone, IsFirstEdge, IsNoEdge, HasBadVertex, IsLoop, ArePairs, pair_at, IsBlocked, CrossesLater, IsCrossed, IsEnd, HasOpenSide, AreClosed, AreEdges, IsInput, rank_of, input_of, kind_of, AreClear, IsFaultless}
 use Rattle.tri_check.proofs.Order.{Less_than, fields_of, lex_edge, lex_one, not_less, first_in, NoKind, NoneBelow, none_at_first, none_next, faultless}
 use Rattle.tri_check.proofs.Whole.{whole}

@@ -1,5 +1,5 @@
 -- The triangulations of all inputs, one after the other, and the instance that is made of them.
-use Rattle.std.proofs.Common.{◌≡◌, ◌⊎◌, inl, inr, ℕ, zero, suc, ◌+◌, ◌<◌, ◌≤◌, List, [], ◌∷◌, ◌++◌, map, sum, take, length, get_or, Contains, Some, None, slice_get, refl, sym, ap, ap₂, ◌∙◌, subst, arith}
+use Rattle.std.proofs.Common.{◌≡◌, ◌⊎◌, inl, inr, ℕ, suc, ◌+◌, ◌<◌, List, [], ◌∷◌, ◌++◌, map, sum, take, length, get_or, Contains, Some, slice_get, refl, sym, ap, ap₂, ◌∙◌, subst, arith}
 use Rattle.std.specs.List.{AllZip}
 use Rattle.std.proofs.lemmas.Option.{slice_get_within, get_or_from_slice_get}
 use Rattle.std.proofs.lemmas.List.Sums.{sum-map, sum_by_more}
@@ -9,9 +9,9 @@ use Rattle.edge_table.specs.declared.edge.Edge.{Edge}
 use Rattle.tri_theory.specs.Triangulations.{IsTriangulation}
 use Rattle.tri_check.specs.declared.raw.RawPair.{RawPair}
 use Rattle.tri_check.specs.declared.fault.Bad.{Bad}
-use Rattle.tri_check.specs.declared.fault.Bad.TheVariants.{TooManyPoints, TooManyInputs, TooManyPairs, CoordinateRange, TooFewPoints, RepeatedPoint, Collinear, NoInput, BadVertex, Loop, Blocked, Crossing, LonePoint, OpenSide}
+use Rattle.tri_check.specs.declared.fault.Bad.TheVariants.{BadVertex, Loop, Blocked, Crossing, LonePoint, OpenSide}
 use Rattle.tri_check.specs.Layouts.{Layout}
-use Rattle.tri_check.specs.Problems.{Problem, IsProblem, AreInputs, all_edges}
+use Rattle.tri_check.specs.Problems.{Problem, AreInputs, all_edges}
 use Rattle.tri_check.specs.Faults.{IsCompletedInput, Holds, IsValid}
 use Rattle.tri_check.specs.Accepted.{IsAccepted}
 use Rattle.tri_check.specs.Stages.{AreSound, AreDone, IsInput, rank_of, input_of}

@@ -1,5 +1,5 @@
 -- Ends, corners and open sides.
-use Rattle.std.proofs.Common.{◌≡◌, ◌⊎◌, inl, inr, ℕ, ◌<◌, min, max, List, length, Contains, sym, ◌∙◌, subst, arith}
+use Rattle.std.proofs.Common.{◌≡◌, inl, inr, ℕ, ◌<◌, min, max, List, length, Contains, sym, ◌∙◌, subst, arith}
 use Rattle.geo_orient.specs.declared.Point.{Point}
 use Rattle.edge_table.specs.declared.edge.Edge.{Edge}
 use Rattle.edge_table.specs.Edges.{edge}

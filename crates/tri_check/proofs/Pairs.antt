@@ -1,12 +1,12 @@
 -- Pairs of an input as edges.
-use Rattle.std.proofs.Common.{◌≡◌, ◌⊎◌, inl, inr, ◌↔◌, ℕ, zero, suc, ◌+◌, ◌<◌, ◌≤◌, min, max, ℤ, pos, negsuc, ◌≤ℤ◌, ◌<ℤ◌, unsigned_abs, List, [], ◌∷◌, map, length, get_or, Contains, refl, sym, ap, ap₂, ◌∙◌, subst, arith}
+use Rattle.std.proofs.Common.{◌≡◌, ◌⊎◌, inl, inr, ℕ, zero, suc, ◌+◌, ◌<◌, min, max, ℤ, pos, negsuc, ◌≤ℤ◌, ◌<ℤ◌, unsigned_abs, List, [], ◌∷◌, map, length, get_or, Contains, refl, sym, ap, ap₂, ◌∙◌, subst, arith}
 use Rattle.std.proofs.lemmas.Int.{ints}
 use Rattle.geo_orient.specs.declared.Point.{Point}
 use Rattle.edge_table.specs.declared.edge.Edge.{Edge}
 use Rattle.edge_table.specs.Edges.{edge, IsAscending, AddsEdge}
-use Rattle.tri_theory.specs.Inputs.{IsHullSegment, IsCompleted}
+use Rattle.tri_theory.specs.Inputs.{IsHullSegment}
 use Rattle.tri_check.specs.declared.raw.RawPair.{RawPair}
-use Rattle.tri_check.specs.Faults.{NamesPoint, IsListed, IsCompletedInput}
+use Rattle.tri_check.specs.Faults.{IsCompletedInput}
 use Rattle.tri_check.specs.Stages.{AreHull, ArePairs, AreMembers, AreEdges, IsNone, IsLoop, pair_at, edge_at}
 use Rattle.tri_check.proofs.Searches.{split}
 

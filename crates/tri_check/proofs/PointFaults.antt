@@ -1,15 +1,15 @@
 -- The first eight kinds of fault: what each test finds is the first fault, and what it doesn't find isn't there.
-use Rattle.std.proofs.Common.{◌≡◌, ◌≢◌, ◌⊎◌, inl, inr, ℕ, ◌+◌, ◌<◌, ◌≤◌, ℤ, pos, ◌<ℤ◌, List, [], ◌∷◌, map, length, sum, refl, sym, ap, ◌∙◌, subst, arith}
+use Rattle.std.proofs.Common.{◌≡◌, ◌≢◌, ◌⊎◌, inl, inr, ℕ, ◌<◌, ◌≤◌, ℤ, pos, ◌<ℤ◌, List, [], ◌∷◌, map, length, sum, refl, sym, ap, ◌∙◌, arith}
 use Rattle.std.proofs.lemmas.Int.{ints}
 use Rattle.geo_orient.specs.declared.Point.{Point}
 use Rattle.geo_orient.specs.Reach.{IsInReach}
 use Rattle.tri_theory.specs.Points.{point, turn}
 use Rattle.tri_check.specs.declared.raw.RawPair.{RawPair}
 use Rattle.tri_check.specs.declared.fault.Bad.{Bad}
-use Rattle.tri_check.specs.declared.fault.Bad.TheVariants.{TooManyPoints, TooManyInputs, TooManyPairs, CoordinateRange, TooFewPoints, RepeatedPoint, Collinear, NoInput, BadVertex, Loop, Blocked, Crossing, LonePoint, OpenSide}
+use Rattle.tri_check.specs.declared.fault.Bad.TheVariants.{TooManyPoints, TooManyInputs, TooManyPairs, CoordinateRange, TooFewPoints, RepeatedPoint, Collinear, NoInput}
 use Rattle.tri_check.specs.Layouts.{AreInReach}
 use Rattle.tri_check.specs.Faults.{Holds, IsFirstFault}
-use Rattle.tri_check.specs.Stages.{IsLeast, AreDistinct, IsFirstRepeat, AreCollinear, AreSpread, rank_of, AreClear}
+use Rattle.tri_check.specs.Stages.{IsLeast, AreDistinct, IsFirstRepeat, AreSpread, rank_of, AreClear}
 use Rattle.tri_check.proofs.Order.{Less_than, rest_of, lex, lex_one, first_of}
 
 module _ (points : List Point) (inputs : List (List RawPair)) where

@@ -1,15 +1,14 @@
 -- Members without a fault are a triangulation.
-use Rattle.std.proofs.Common.{◌≡◌, ◌⊎◌, inl, inr, ℕ, ◌<◌, ℤ, pos, ◌+ℤ◌, neg_ℤ, ◌<ℤ◌, List, length, Contains, sym, ◌∙◌, subst, arith}
+use Rattle.std.proofs.Common.{◌≡◌, ◌⊎◌, inl, inr, ℕ, ◌<◌, ℤ, pos, neg_ℤ, ◌<ℤ◌, List, length, Contains, sym, ◌∙◌, subst, arith}
 use Rattle.std.proofs.lemmas.Int.{ints}
 use Rattle.geo_orient.specs.declared.Point.{Point}
-use Rattle.geo_orient.specs.Predicates.{orient}
 use Rattle.geo_orient.proofs.Signs.{orient-cycle, orient-swap}
 use Rattle.edge_table.specs.declared.edge.Edge.{Edge}
 use Rattle.edge_table.specs.Edges.{edge, IsBefore, IsAscending}
 use Rattle.edge_table.proofs.Edges.{edge_is}
 use Rattle.edge_table.proofs.Ascending.{before_cases}
 use Rattle.tri_theory.specs.Points.{point, turn, IsLeft}
-use Rattle.tri_theory.specs.Triangulations.{AreJoined, Crosses, IsEmptyTriangle, IsTriangulation}
+use Rattle.tri_theory.specs.Triangulations.{AreJoined, Crosses, IsTriangulation}
 use Rattle.tri_check.specs.Stages.{AreEdges, IsNoEdge, IsBlocked, IsCrossed, IsEnd, IsClosed, AreClosed}
 
 -- no edge crosses itself

@@ -1,5 +1,5 @@
 -- What is known of raw values once some kinds of fault are ruled out.
-use Rattle.std.specs.Prelude.{◌≡◌, ◌≢◌, ◌⊎◌, ⊤, ℕ, ◌<◌, ◌≤◌, ℤ, pos, List, length, Contains, Some, slice_get, slice_index_or, unsigned_abs, ◌≤ℤ◌, ◌<ℤ◌}
+use Rattle.std.specs.Prelude.{◌≡◌, ◌≢◌, ◌⊎◌, ℕ, ◌<◌, ◌≤◌, pos, List, length, Contains, Some, slice_get, slice_index_or, unsigned_abs, ◌≤ℤ◌, ◌<ℤ◌}
 use Rattle.geo_orient.specs.declared.Point.{Point}
 use Rattle.edge_table.specs.declared.edge.Edge.{Edge}
 use Rattle.edge_table.specs.Edges.{edge, IsBefore, IsAscending}
@@ -9,7 +9,7 @@ use Rattle.tri_theory.specs.Inputs.{IsHullSegment}
 use Rattle.tri_check.specs.declared.raw.RawPair.{RawPair}
 use Rattle.tri_check.specs.declared.fault.Bad.{Bad}
 use Rattle.tri_check.specs.Layouts.{Layout, AreInReach}
-use Rattle.tri_check.specs.Faults.{Holds, NamesPoint, place_of, IsFirstFault, IsCompletedInput, IsOpen}
+use Rattle.tri_check.specs.Faults.{Holds, NamesPoint, place_of, IsCompletedInput, IsOpen}
 
 -- ---- searches
 

@@ -1,4 +1,3 @@
-use Rattle.std.proofs.Common.{◌≡◌, ◌+◌}
 use Rattle.tri_check.specs.Hulls.{IsHullBelow}
 use Rattle.tri_check.proofs.hull.add_from.Given as goal
 

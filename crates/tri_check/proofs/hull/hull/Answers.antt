@@ -1,5 +1,5 @@
 use Rattle.std.proofs.Common.{arith}
-use Rattle.tri_check.proofs.Outline.{hull_none, hull_all}
+use Rattle.tri_check.proofs.Outline.{hull_all}
 use Rattle.tri_check.proofs.hull.hull.Goals as goal
 
 pub returns : goal.returns

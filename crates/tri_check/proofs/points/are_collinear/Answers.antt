@@ -1,4 +1,4 @@
-use Rattle.std.proofs.Common.{◌<◌, length, arith}
+use Rattle.std.proofs.Common.{arith}
 use Rattle.tri_theory.specs.Points.{IsLeft}
 use Rattle.tri_check.proofs.Searches.{refuted, none_more}
 use Rattle.tri_check.proofs.Lines.{collinear}
