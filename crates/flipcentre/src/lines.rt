@@ -28,7 +28,12 @@ pub fn bad_text(alloc: Global, bad: Bad) -> Result<String, AllocError>
         Bad::TooManyPairs(c) => format!(in alloc; "refused instance TooManyPairs {c}\n"),
         Bad::CoordinateRange(i) => format!(in alloc; "refused instance CoordinateRange {i}\n"),
         Bad::TooFewPoints(n) => format!(in alloc; "refused instance TooFewPoints {n}\n"),
-        Bad::RepeatedPoint(i, j) => numbers_text(alloc, "RepeatedPoint", u64::from(i), u64::from(j)),
+        Bad::RepeatedPoint(i, j) => numbers_text(
+            alloc,
+            "RepeatedPoint",
+            u64::from(i),
+            u64::from(j),
+        ),
         Bad::Collinear => String::from_str(alloc, "refused instance Collinear\n"),
         Bad::NoInput => String::from_str(alloc, "refused instance NoInput\n"),
         Bad::BadVertex(t, p) => numbers_text(alloc, "BadVertex", u64::from(t), p),

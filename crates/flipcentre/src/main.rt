@@ -9,9 +9,8 @@ mod words;
 use host_io::{DirStore, StdSink};
 use run::run_plain;
 use status::Status;
-use std::env;
-use std::io;
 use std::process::ExitCode;
+use std::{env, io};
 
 // The words after the program's name.
 fn command_words(rt: &HostRuntime) -> io::Result<Vec<String>> {

@@ -116,7 +116,12 @@ fn reply_to<S: Store>(alloc: Global, words: &[String], store: &mut S) -> Result<
 /// Does what the words ask for: reads the files that they name from the store, and puts one line.
 ///
 /// `words` are those after the program's name.
-pub fn run_plain<S: Store, O: Sink>(alloc: Global, words: &[String], store: &mut S, out: &mut O) -> Status
+pub fn run_plain<S: Store, O: Sink>(
+    alloc: Global,
+    words: &[String],
+    store: &mut S,
+    out: &mut O,
+) -> Status
     // 0: what the command asks of the files holds, and the line that says so was put.
     ensures done { result ≡ Status.Done
         → Tells (texts words.now) (S.held store.old) Status.Done (O.told out.old) (O.told out.new) }
