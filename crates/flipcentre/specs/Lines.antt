@@ -5,6 +5,13 @@ use Rattle.edge_table.specs.declared.edge.Edge.{Edge}
 use Rattle.instance_json.specs.declared.fault.Form.{Form}
 use Rattle.instance_json.specs.declared.fault.Form.TheVariants.{NotJson, NotObject, Missing, WrongType, NotInteger, LengthMismatch}
 use Rattle.instance_json.specs.Members.{name_of}
+use Rattle.replay.specs.declared.fault.RoundFault.{RoundFault}
+use Rattle.replay.specs.declared.fault.RoundFault.TheVariants.{NotEdge, Twice, NotConvex, SharedTriangle}
+use Rattle.replay.specs.declared.fault.ScoreFault.{ScoreFault}
+use Rattle.replay.specs.declared.fault.ScoreFault.TheVariants as score
+use Rattle.solution_json.specs.declared.fault.SolForm.{SolForm}
+use Rattle.solution_json.specs.declared.fault.SolForm.TheVariants as solution
+use Rattle.solution_json.specs.Members as solution_member
 use Rattle.tri_check.specs.declared.fault.Bad.{Bad}
 use Rattle.tri_check.specs.declared.fault.Bad.TheVariants.{TooManyPoints, TooManyInputs, TooManyPairs, CoordinateRange, TooFewPoints, RepeatedPoint, Collinear, NoInput, BadVertex, Loop, Blocked, Crossing, LonePoint, OpenSide}
 
@@ -56,3 +63,51 @@ form_words (LengthMismatch x y) = codes "LengthMismatch" ∷ decimal x ∷ decim
 
 abbrev pub form_line : Form → List ℕ
 form_line form = line (instance_refused (form_words form))
+
+-- ---- scores
+
+abbrev pub total_line : ℕ → List ℕ
+total_line total = line (codes "total" ∷ decimal total ∷ [])
+
+-- a solution is refused, for this fault
+abbrev pub solution_refused : List (List ℕ) → List (List ℕ)
+solution_refused fault = codes "refused" ∷ codes "solution" ∷ fault
+
+-- a fault of form: its name and its fields
+abbrev pub solution_form_words : SolForm → List (List ℕ)
+solution_form_words solution.NotJson = codes "NotJson" ∷ []
+solution_form_words solution.NotObject = codes "NotObject" ∷ []
+solution_form_words (solution.Missing m) = codes "Missing" ∷ solution_member.name_of m ∷ []
+solution_form_words (solution.WrongType m) = codes "WrongType" ∷ solution_member.name_of m ∷ []
+solution_form_words (solution.NotInteger k) = codes "NotInteger" ∷ decimal k ∷ []
+solution_form_words (solution.BadPair k) = codes "BadPair" ∷ decimal k ∷ []
+
+abbrev pub solution_form_line : SolForm → List ℕ
+solution_form_line form = line (solution_refused (solution_form_words form))
+
+-- the solution is one of another instance
+abbrev pub other_uid_line : List ℕ
+other_uid_line = line (solution_refused (codes "UidSolution" ∷ []))
+
+-- a fault of a round: its name and its fields
+abbrev pub round_words : RoundFault → List (List ℕ)
+round_words (NotEdge r e) = codes "NotEdge" ∷ decimal r ∷ edge_text e ∷ []
+round_words (Twice r e) = codes "Twice" ∷ decimal r ∷ edge_text e ∷ []
+round_words (NotConvex r e) = codes "NotConvex" ∷ decimal r ∷ edge_text e ∷ []
+round_words (SharedTriangle r e f) = codes "SharedTriangle" ∷ decimal r ∷ edge_text e ∷ edge_text f ∷ []
+
+abbrev pub input_count_line : ℕ → ℕ → List ℕ
+input_count_line said is = line (solution_refused (codes "InputCount" ∷ decimal said ∷ decimal is ∷ []))
+
+abbrev pub round_line : ℕ → RoundFault → List ℕ
+round_line t fault = line (solution_refused (codes "Round" ∷ decimal t ∷ round_words fault))
+
+abbrev pub no_common_centre_line : ℕ → List ℕ
+no_common_centre_line t = line (solution_refused (codes "NoCommonCentre" ∷ decimal t ∷ []))
+
+-- the first fault of a solution's rounds; want of memory has no line
+abbrev pub score_fault_line : ScoreFault → List ℕ
+score_fault_line (score.InputCount said is) = input_count_line said is
+score_fault_line (score.Round t fault) = round_line t fault
+score_fault_line (score.NoCommonCentre t) = no_common_centre_line t
+score_fault_line score.OutOfMemory = []

@@ -1,8 +1,12 @@
 //! `flipcentre`: a solver, prover and checker for central triangulation under parallel edge flips.
 #![tactic(auto)]
 
+mod checking;
 mod lines;
+mod reply;
 mod run;
+mod scoring;
+mod solution_lines;
 mod status;
 mod words;
 

@@ -1,100 +1,17 @@
 // The top call: from the words to the status and the printed line.
-ghost use Rattle.std.specs.Prelude.{◌≡◌, ◌≢◌, ◌⊎◌, ◌+◌, ◌≤◌, ℕ, List, length, IfOk, IsErrOf, Some, Ok, string_bytes};
-ghost use Rattle.host_io.specs.Store.{Counts, Rose};
-ghost use Rattle.flipcentre.specs.Lines.{valid_line};
-ghost use Rattle.flipcentre.specs.Words.{Check, texts, IsUnasked};
-ghost use Rattle.flipcentre.specs.Runs.{MayHold, IsUnheld, Says, CheckSays, CommandSays, HasReadCause, IsOnceAtMost, Completes, LacksFile, Tells, TellsPart};
+ghost use Rattle.std.specs.Prelude.{◌≡◌, ◌≢◌, ◌⊎◌, IfOk, IsErrOf, string_bytes};
+ghost use Rattle.host_io.specs.Store.{Rose};
+ghost use Rattle.flipcentre.specs.Words.{texts, IsUnasked};
+ghost use Rattle.flipcentre.specs.Runs.{Says, HasReadCause, CallsOnce, Completes, Tells, TellsPart};
 
-use crate::lines::{bad_text, form_text, valid_text, words_text};
+use crate::checking::check_file;
+use crate::lines::words_text;
+use crate::reply::{Quiet, Reply, with_line};
+use crate::scoring::score_files;
 use crate::status::Status;
 use crate::words::{Asked, read_words};
-use host_io::{Bytes, Sink, Store, StoreFail, put_all};
-use instance_json::{InstanceFault, read_instance};
-use std::alloc::{AllocError, Global};
-use tri_check::{CheckFault, Instance};
-
-// What is to be printed, and the status that it stands for.
-#[derive(Debug, Drop)]
-struct Reply {
-    status: Status,
-    line: String,
-}
-
-// Why nothing is printed.
-#[derive(Clone, Copy, Debug, PartialEq, Eq)]
-enum Quiet {
-    Memory,
-    ReadFault,
-}
-
-fn with_line(status: Status, line: Result<String, AllocError>) -> Result<Reply, Quiet>
-    ensures status { IfOk result (λ r. r.status ≡ status) }
-    ensures line { IfOk result (λ r. line ≡ Ok r.line) }
-    ensures memory { IsErrOf result Quiet.ReadFault → ⊥ }
-{
-    match line {
-        Ok(line) => Ok(Reply { status, line }),
-        Err(_) => Err(Quiet::Memory),
-    }
-}
-
-// What `check` says of an instance.
-fn valid_reply(alloc: Global, instance: &Instance) -> Result<Reply, Quiet>
-    ensures says { IfOk result (λ r. (r.status ≡ Status.Done)
-        × (string_bytes r.line ≡ valid_line (length instance.now.points) (length instance.now.inputs))) }
-    ensures memory { IsErrOf result Quiet.ReadFault → ⊥ }
-{
-    with_line(
-        Status::Done,
-        valid_text(alloc, instance.count(), instance.inputs()),
-    )
-}
-
-// What `check` says of the bytes of a file.
-fn check_bytes(alloc: Global, bytes: &[u8]) -> Result<Reply, Quiet>
-    ensures says { IfOk result (λ r. CheckSays bytes.now r.status (string_bytes r.line)) }
-    ensures memory { IsErrOf result Quiet.ReadFault → ⊥ }
-{
-    let raw = match read_instance(alloc, bytes) {
-        Ok(raw) => raw,
-        Err(InstanceFault::Form(form)) => return with_line(Status::Refused, form_text(alloc, form)),
-        Err(InstanceFault::OutOfMemory) => return Err(Quiet::Memory),
-    };
-    match Instance::check(alloc, raw) {
-        Ok(instance) => valid_reply(alloc, &instance),
-        Err(CheckFault::Bad(bad)) => with_line(Status::Refused, bad_text(alloc, bad)),
-        Err(CheckFault::OutOfMemory) => Err(Quiet::Memory),
-    }
-}
-
-// All bytes under a name.
-fn read_file<S: Store>(alloc: Global, store: &mut S, name: &str) -> Result<Bytes, Quiet>
-    ensures held { IfOk result (λ bytes. MayHold (S.held store.old) name.now bytes) }
-    ensures cause { IsErrOf result Quiet.ReadFault → Rose (S.read_faults store.old) (S.read_faults store.new)
-        ⊎ IsUnheld (S.held store.old) name.now }
-    ensures kept { S.held store.new ≡ S.held store.old }
-    ensures writes { S.write_faults store.new ≡ S.write_faults store.old }
-    ensures counted { Counts (S.calls store.old) (S.calls store.new) }
-{
-    match store.read(alloc, name) {
-        Ok(bytes) => Ok(bytes),
-        Err(StoreFail::OutOfMemory) => Err(Quiet::Memory),
-        Err(StoreFail::Failed | StoreFail::NotHeld) => Err(Quiet::ReadFault),
-    }
-}
-
-// What `check` says of a file.
-fn check_file<S: Store>(alloc: Global, store: &mut S, name: &str) -> Result<Reply, Quiet>
-    ensures says { IfOk result (λ r. CommandSays (S.held store.old) (Check name.now) r.status (string_bytes r.line)) }
-    ensures cause { IsErrOf result Quiet.ReadFault → Rose (S.read_faults store.old) (S.read_faults store.new)
-        ⊎ LacksFile (S.held store.old) (Check name.now) }
-    ensures kept { S.held store.new ≡ S.held store.old }
-    ensures writes { S.write_faults store.new ≡ S.write_faults store.old }
-    ensures counted { Counts (S.calls store.old) (S.calls store.new) }
-{
-    let bytes = read_file(alloc, store, name)?;
-    check_bytes(alloc, bytes.as_slice())
-}
+use host_io::{Sink, Store, put_all};
+use std::alloc::Global;
 
 // What the words and the files call for.
 fn reply_to<S: Store>(alloc: Global, words: &[String], store: &mut S) -> Result<Reply, Quiet>
@@ -104,12 +21,13 @@ fn reply_to<S: Store>(alloc: Global, words: &[String], store: &mut S) -> Result<
     ensures asked { IsErrOf result Quiet.ReadFault → ¬ IsUnasked (texts words.now) }
     ensures kept { S.held store.new ≡ S.held store.old }
     ensures writes { S.write_faults store.new ≡ S.write_faults store.old }
-    ensures calls { IsOnceAtMost (S.calls store.old) (S.calls store.new) }
+    ensures calls { CallsOnce (texts words.now) (S.calls store.old) (S.calls store.new) }
     ensures uncalled { IsUnasked (texts words.now) → S.calls store.new ≡ S.calls store.old }
 {
     match read_words(words) {
         None => with_line(Status::Words, words_text(alloc)),
         Some(Asked::Check { instance }) => check_file(alloc, store, instance),
+        Some(Asked::Score { instance, solution }) => score_files(alloc, store, instance, solution),
     }
 }
 
@@ -151,10 +69,10 @@ pub fn run_plain<S: Store, O: Sink>(
     ensures words_decide { IsUnasked (texts words.now) → ¬ Rose (O.faults out.old) (O.faults out.new)
         → (result ≡ Status.Words) ⊎ (result ≡ Status.Memory) }
 
-    // The store's names stay, and it is called at most once, and not where the words are those of no command.
+    // The store's names stay, and it is called at most once for each file of the command, and not where the words are those of no command.
     ensures kept { S.held store.new ≡ S.held store.old }
     ensures writes { S.write_faults store.new ≡ S.write_faults store.old }
-    ensures calls { IsOnceAtMost (S.calls store.old) (S.calls store.new) }
+    ensures calls { CallsOnce (texts words.now) (S.calls store.old) (S.calls store.new) }
     ensures uncalled { IsUnasked (texts words.now) → S.calls store.new ≡ S.calls store.old }
 {
     let reply = match reply_to(alloc, words, store) {

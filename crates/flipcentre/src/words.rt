@@ -7,6 +7,11 @@ ghost use Rattle.flipcentre.specs.Words.{IsName, texts, Asks, IsUnasked, command
 pub enum Asked<'a> {
     /// Whether a file holds an instance.
     Check { instance: &'a str },
+    /// The total of a solution of an instance.
+    Score {
+        instance: &'a str,
+        solution: &'a str,
+    },
 }
 
 // Whether the word may name a file.
@@ -30,12 +35,30 @@ fn with_one_name<'a>(command: &str, name: &'a str) -> Option<Asked<'a>>
     }
 }
 
+// What a command with two names asks for.
+fn with_two_names<'a>(command: &str, first: &'a str, second: &'a str) -> Option<Asked<'a>>
+    ensures { MatchOption result (IsUnasked (command.now ∷ first.entry.now ∷ second.entry.now ∷ []))
+        (λ asked. Asks (command.now ∷ first.entry.now ∷ second.entry.now ∷ []) (command_of asked)) }
+{
+    if command == "score" && is_name(first) && is_name(second) {
+        Some(Asked::Score {
+            instance: first,
+            solution: second,
+        })
+    } else {
+        None
+    }
+}
+
 /// What the words after the program's name ask for, if they are those of a command.
 pub fn read_words(words: &[String]) -> Option<Asked<'_>>
     ensures { MatchOption result (IsUnasked (texts words.now)) (λ asked. Asks (texts words.now) (command_of asked)) }
 {
     match words {
         [command, name] => with_one_name(command.as_str(), name.as_str()),
+        [command, first, second] => {
+            with_two_names(command.as_str(), first.as_str(), second.as_str())
+        }
         _ => None,
     }
 }

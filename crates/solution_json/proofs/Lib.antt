@@ -1,3 +1,4 @@
+pub mod Once
 pub mod Firsts
 pub mod Schedules
 pub mod Whole

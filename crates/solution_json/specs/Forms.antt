@@ -18,3 +18,7 @@ pub record Spells (bytes : List ℕ) (s : Solution) : Type 0 where
   pub value : Data
   pub text : IsText bytes value
   pub is : IsSolution value s
+
+-- a text spells one solution at most
+abbrev pub TextsSpellOnce : Type 0
+TextsSpellOnce = (bytes : List ℕ) (r s : Solution) → Spells bytes r → Spells bytes s → r ≡ s

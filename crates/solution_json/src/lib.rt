@@ -8,7 +8,7 @@ mod solution;
 mod write;
 
 pub use fault::{SolForm, SolMember, SolutionFault};
-pub use read::read_solution;
+pub use read::{laws, read_solution};
 pub use solution::Solution;
 pub use write::solution_text;
 

@@ -7,7 +7,7 @@ ghost use Rattle.json_value.specs.Values.{IsList, IsListOf, IsPair, IsPairOf, Li
 ghost use Rattle.solution_json.specs.Edges.{pairs_within};
 ghost use Rattle.solution_json.specs.Members.{name_of, IsAt, HasType};
 ghost use Rattle.solution_json.specs.Faults.{HasForm, OnFault, OnFaultIn, OnNumbers, IsNumberFault};
-ghost use Rattle.solution_json.specs.Forms.{IsSolution, Spells};
+ghost use Rattle.solution_json.specs.Forms.{TextsSpellOnce, IsSolution, Spells};
 
 use crate::edges::{lists_of, pair_count};
 use crate::{SolForm, SolMember, Solution, SolutionFault};
@@ -15,6 +15,12 @@ use json_value::{NumberFault, ParseFault, are_pair_lists, pair_lists_in, parse};
 use serde_json::Value;
 use std::alloc::Global;
 use tri_check::{RawInputs, Uid};
+
+/// The law of spelling.
+pub fn laws()
+    ensures { TextsSpellOnce }
+{
+}
 
 /// The solution that a text of JSON spells. Time and memory grow with the length of the text.
 pub fn read_solution(alloc: Global, bytes: &[u8]) -> Result<Solution, SolutionFault>

@@ -3,7 +3,7 @@ use Rattle.std.proofs.lemmas.Result.{IfOk-weaker}
 use Rattle.tri_check.specs.Accepted.{IsAccepted}
 use Rattle.flipcentre.specs.Runs.{CheckSays}
 use Rattle.flipcentre.proofs.Saying.{accepted_says}
-use Rattle.flipcentre.proofs.run.check_bytes.Goals as goal
+use Rattle.flipcentre.proofs.checking.check_bytes.Goals as goal
 
 pub returns-in-Ok-check-clause-says : goal.returns-in-Ok-check-clause-says
 returns-in-Ok-check-clause-says c =
