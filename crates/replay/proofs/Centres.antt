@@ -8,7 +8,8 @@ use Rattle.tri_theory.specs.Rounds.{IsPlan, total}
 use Rattle.replay.specs.Independent.{AreRoundsOf}
 use Rattle.replay.specs.declared.fault.ScoreFault.{ScoreFault}
 use Rattle.replay.specs.declared.fault.ScoreFault.TheVariants.{InputCount, Round, NoCommonCentre, OutOfMemory}
-use Rattle.replay.specs.Scores.{LeadsTo, AllLead, HasFirstFault, EndsApart, IsCentre, IsEndFault, IsScoreFault, AreAllDistinct, IsApart, IsNextApart}
+use Rattle.replay.specs.Scores.{LeadsTo, AllLead, HasFirstFault, EndsApart, IsScoreFault, AreAllDistinct}
+use Rattle.replay.specs.Ends.{IsCentre, IsEndFault, IsApart, IsNextApart}
 
 pub total_push : (lists : List (List (List Edge))) (rounds : List (List Edge)) → total (lists ++ rounds ∷ []) ≡ total lists + length rounds
 total_push lists rounds =

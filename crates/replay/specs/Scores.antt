@@ -1,6 +1,5 @@
 -- Which lists of rounds are no plan of an instance, and which fault is the first.
-use Rattle.std.specs.Prelude.{◌≡◌, ◌≢◌, ℕ, ◌<◌, List, length, Option, None, Some, slice_get, All}
-use Rattle.std.specs.List.{AllZip}
+use Rattle.std.specs.Prelude.{◌≡◌, ◌≢◌, ℕ, ◌<◌, List, length, Some, slice_get, All}
 use Rattle.geo_orient.specs.declared.Point.{Point}
 use Rattle.edge_table.specs.declared.edge.Edge.{Edge}
 use Rattle.replay.specs.declared.fault.ScoreFault.{ScoreFault}
@@ -29,7 +28,7 @@ pub record HasFirstFault (points : List Point) (inputs : List (List Edge)) (list
 abbrev pub AllLead : List Point → List (List Edge) → List (List (List Edge)) → ℕ → Type 0
 AllLead points inputs lists t = (k : ℕ) → k < t → (end : List Edge) × LeadsTo points inputs lists k end
 
--- there are as many lists as inputs, all lists before the place t lead to one edge set, and that one leads to another
+-- the list with the place t leads elsewhere than the first one, and all lists before it lead where the first one does
 pub record EndsApart (points : List Point) (inputs : List (List Edge)) (lists : List (List (List Edge))) (t : ℕ) : Type 0 where
   pub centre : List Edge
   pub first : LeadsTo points inputs lists 0 centre
@@ -45,28 +44,6 @@ IsScoreFault points inputs lists (Round t fault) = (length lists ≡ length inpu
 IsScoreFault points inputs lists (NoCommonCentre t) = (length lists ≡ length inputs) × AllLead points inputs lists (length inputs) × EndsApart points inputs lists t
 IsScoreFault points inputs lists OutOfMemory = Unit {0}
 
--- the list with the place t is refused for its first fault, or there is no memory
-abbrev pub IsEndFault : List Point → List (List Edge) → List (List (List Edge)) → ℕ → ScoreFault → Type 0
-IsEndFault points inputs lists t (InputCount said is) = ⊥
-IsEndFault points inputs lists t (Round k fault) = (k ≡ t) × HasFirstFault points inputs lists t fault
-IsEndFault points inputs lists t (NoCommonCentre k) = ⊥
-IsEndFault points inputs lists t OutOfMemory = Unit {0}
-
--- all lists lead to the edge set, and there are as many of them as inputs
-abbrev pub IsCentre : List Point → List (List Edge) → List (List (List Edge)) → List Edge → Type 0
-IsCentre points inputs lists centre = AllZip (λ input rounds. AreRoundsOf points input rounds centre) inputs lists
-
 -- no round of any list names an edge twice
 abbrev pub AreAllDistinct : List (List (List Edge)) → Type 0
 AreAllDistinct lists = All (λ rounds. All HasNoRepeats rounds) lists
-
--- the first list before the place t whose end isn't the centre, where there is one
-abbrev pub IsApart : List Point → List (List Edge) → List (List (List Edge)) → ℕ → List Edge → Option ℕ → Type 0
-IsApart points inputs lists t centre None = (k : ℕ) → k < t → LeadsTo points inputs lists k centre
-IsApart points inputs lists t centre (Some s) = EndsApart points inputs lists s
-
--- the old answer where there is one, else t where the ends differ
-abbrev pub IsNextApart : Option ℕ → ℕ → List Edge → List Edge → Option ℕ → Type 0
-IsNextApart (Some s) t end centre new = new ≡ Some s
-IsNextApart None t end centre None = end ≡ centre
-IsNextApart None t end centre (Some s) = (s ≡ t) × (end ≢ centre)

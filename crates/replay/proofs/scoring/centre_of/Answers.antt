@@ -1,5 +1,5 @@
 use Rattle.std.proofs.Common.{length, subst}
-use Rattle.replay.specs.Scores.{IsApart}
+use Rattle.replay.specs.Ends.{IsApart}
 use Rattle.replay.proofs.Centres.{all_to_centre}
 use Rattle.replay.proofs.scoring.centre_of.Goals as goal
 

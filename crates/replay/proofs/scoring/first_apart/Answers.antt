@@ -1,6 +1,7 @@
 use Rattle.std.proofs.Common.{◌≡◌, length, subst, arith}
 use Rattle.std.proofs.lemmas.Result.{err_from_is_err_and}
-use Rattle.replay.specs.Scores.{AllLead, IsApart}
+use Rattle.replay.specs.Scores.{AllLead}
+use Rattle.replay.specs.Ends.{IsApart}
 use Rattle.replay.proofs.Centres.{lead_more, apart_more, end_fault_first}
 use Rattle.replay.proofs.scoring.first_apart.Goals as goal
 

@@ -1,4 +1,5 @@
-use Rattle.replay.specs.Scores.{AllLead, IsApart}
+use Rattle.replay.specs.Scores.{AllLead}
+use Rattle.replay.specs.Ends.{IsApart}
 use Rattle.replay.proofs.scoring.first_apart.Given as goal
 
 -- all lists so far lead somewhere, and the first whose end isn't the centre is known
