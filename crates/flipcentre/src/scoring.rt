@@ -8,7 +8,10 @@ ghost use Rattle.flipcentre.specs.Runs.{SolutionSays, RawSays, ScoreSays, Comman
 
 use crate::lines::{bad_text, form_text};
 use crate::reply::{Quiet, Reply, read_file, with_line};
-use crate::solution_lines::{input_count_text, no_common_centre_text, other_uid_text, round_text, solution_form_text, total_text};
+use crate::solution_lines::{
+    input_count_text, no_common_centre_text, other_uid_text, round_text, solution_form_text,
+    total_text,
+};
 use crate::status::Status;
 use host_io::Store;
 use instance_json::{InstanceFault, read_instance};
@@ -79,7 +82,12 @@ fn score_bytes(alloc: Global, bytes: &[u8], others: &[u8]) -> Result<Reply, Quie
 }
 
 // What `score` says of two files.
-pub(crate) fn score_files<S: Store>(alloc: Global, store: &mut S, instance: &str, solution: &str) -> Result<Reply, Quiet>
+pub(crate) fn score_files<S: Store>(
+    alloc: Global,
+    store: &mut S,
+    instance: &str,
+    solution: &str,
+) -> Result<Reply, Quiet>
     ensures says { IfOk result (λ r. CommandSays (S.held store.old) (Score instance.now solution.now) r.status (string_bytes r.line)) }
     ensures cause { IsErrOf result Quiet.ReadFault → Rose (S.read_faults store.old) (S.read_faults store.new)
         ⊎ LacksFile (S.held store.old) (Score instance.now solution.now) }

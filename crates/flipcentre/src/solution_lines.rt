@@ -69,7 +69,14 @@ fn edge_word(alloc: Global, e: Edge) -> Result<String, AllocError>
 }
 
 // A fault of a round with two edges.
-fn edges_fault_text(alloc: Global, t: u32, name: &str, r: u64, e: Edge, f: Edge) -> Result<String, AllocError>
+fn edges_fault_text(
+    alloc: Global,
+    t: u32,
+    name: &str,
+    r: u64,
+    e: Edge,
+    f: Edge,
+) -> Result<String, AllocError>
     ensures { IfOk result (λ s. string_bytes s
         ≡ line (solution_refused (codes "Round" ∷ decimal t ∷ name.now ∷ decimal r ∷ edge_text e ∷ edge_text f ∷ []))) }
 {
@@ -86,6 +93,13 @@ pub fn round_text(alloc: Global, t: u32, fault: RoundFault) -> Result<String, Al
         RoundFault::NotEdge(r, e) => edge_fault_text(alloc, t, "NotEdge", r, e),
         RoundFault::Twice(r, e) => edge_fault_text(alloc, t, "Twice", r, e),
         RoundFault::NotConvex(r, e) => edge_fault_text(alloc, t, "NotConvex", r, e),
-        RoundFault::SharedTriangle(r, e, f) => edges_fault_text(alloc, t, "SharedTriangle", r, e, f),
+        RoundFault::SharedTriangle(r, e, f) => edges_fault_text(
+            alloc,
+            t,
+            "SharedTriangle",
+            r,
+            e,
+            f,
+        ),
     }
 }

@@ -6,7 +6,9 @@ ghost use Rattle.flipcentre.specs.Words.{IsName, texts, Asks, IsUnasked, command
 #[derive(Clone, Copy, Debug, PartialEq, Eq)]
 pub enum Asked<'a> {
     /// Whether a file holds an instance.
-    Check { instance: &'a str },
+    Check {
+        instance: &'a str,
+    },
     /// The total of a solution of an instance.
     Score {
         instance: &'a str,

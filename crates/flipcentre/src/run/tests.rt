@@ -225,3 +225,169 @@ fn files_that_are_not_read_are_read_faults(rt: HostRuntime) -> Result<(), Fail> 
     }
     Ok(())
 }
+
+// What a run of `score` on these two files gives.
+fn score_outcome(alloc: Global, instance: &str, solution: &str) -> Result<(Status, String), Fail> {
+    let mut store = MemStore::make(alloc);
+    store.hold("i.json", instance.as_bytes())?;
+    store.hold("s.json", solution.as_bytes())?;
+    let mut out = MemSink::make(alloc);
+    out.reserve(200)?;
+    let words = [
+        String::from_str(alloc, "score")?,
+        String::from_str(alloc, "i.json")?,
+        String::from_str(alloc, "s.json")?,
+    ];
+    let status = run_plain(alloc, &words, &mut store, &mut out);
+    let told = String::from_utf8(out.bytes().to_vec(alloc)?)?;
+    Ok((status, told))
+}
+
+#[test]
+fn solutions_of_the_square_are_scored(rt: HostRuntime) -> Result<(), Fail> {
+    let rows = [
+        (
+            r#"{"content_type":"CGSHOP2026_Solution","flips":[[],[[],[[1,3]]]],"instance_uid":"Q","meta":{}}"#,
+            "total 2\n",
+            Status::Done,
+        ),
+        (
+            r#"{"content_type":"CGSHOP2026_Solution","flips":[[],[[[1,3]]]],"instance_uid":"Q","meta":{}}"#,
+            "total 1\n",
+            Status::Done,
+        ),
+        (
+            r#"{"content_type":"CGSHOP2026_Solution","flips":[[[[0,2]]],[]],"instance_uid":"Q","meta":{},"more":1}"#,
+            "total 1\n",
+            Status::Done,
+        ),
+        (
+            r#"{"content_type":"CGSHOP2026_Solution","flips":[[[[0,2],[0,2]]],[]],"instance_uid":"Q","meta":{}}"#,
+            "refused solution Round 0 Twice 0 0-2\n",
+            Status::Refused,
+        ),
+        (
+            r#"{"content_type":"CGSHOP2026_Solution","flips":[[[[1,3]]],[]],"instance_uid":"Q","meta":{}}"#,
+            "refused solution Round 0 NotEdge 0 1-3\n",
+            Status::Refused,
+        ),
+        (
+            r#"{"content_type":"CGSHOP2026_Solution","flips":[[[[0,1]]],[]],"instance_uid":"Q","meta":{}}"#,
+            "refused solution Round 0 NotConvex 0 0-1\n",
+            Status::Refused,
+        ),
+        (
+            r#"{"content_type":"CGSHOP2026_Solution","flips":[[]],"instance_uid":"Q","meta":{}}"#,
+            "refused solution InputCount 1 2\n",
+            Status::Refused,
+        ),
+        (
+            r#"{"content_type":"CGSHOP2026_Solution","flips":[[],[]],"instance_uid":"Q","meta":{}}"#,
+            "refused solution NoCommonCentre 1\n",
+            Status::Refused,
+        ),
+        (
+            r#"{"content_type":"CGSHOP2026_Solution","flips":[[[[1,1]]]],"instance_uid":"Q","meta":{}}"#,
+            "refused solution BadPair 0\n",
+            Status::Refused,
+        ),
+        (
+            r#"{"content_type":"CGSHOP2026_Solution","flips":[[],[[[1,3]]]],"instance_uid":"P","meta":{}}"#,
+            "refused solution UidSolution\n",
+            Status::Refused,
+        ),
+        (
+            r#"{"content_type":"CGSHOP2026_Solution","flips":[[[[0,2.5]]]],"instance_uid":"Q","meta":{}}"#,
+            "refused solution NotInteger 1\n",
+            Status::Refused,
+        ),
+        (
+            r#"{"content_type":"CGSHOP2026_Solution","flips":[[[[0]]]],"instance_uid":"Q","meta":{}}"#,
+            "refused solution WrongType flips\n",
+            Status::Refused,
+        ),
+        (
+            r#"{}"#,
+            "refused solution Missing instance_uid\n",
+            Status::Refused,
+        ),
+        (r#"[]"#, "refused solution NotObject\n", Status::Refused),
+        (r#""#, "refused solution NotJson\n", Status::Refused),
+    ];
+    for (solution, line, want) in rows {
+        let (status, told) = score_outcome(rt.alloc(), SQUARE, solution)?;
+        assert_eq!(rt; told.as_str(), line, "{solution}");
+        assert_eq!(rt; status, want);
+    }
+    Ok(())
+}
+
+#[test]
+fn rounds_are_refused_for_their_first_fault(rt: HostRuntime) -> Result<(), Fail> {
+    let rows = [
+        (
+            r#"{"instance_uid":"P","points_x":[0,4,5,2,-1],"points_y":[0,0,3,5,3],"triangulations":[[[0,2],[0,3]],[[1,3],[1,4]]]}"#,
+            r#"{"content_type":"CGSHOP2026_Solution","flips":[[[[0,2],[0,3]]],[]],"instance_uid":"P","meta":{}}"#,
+            "refused solution Round 0 SharedTriangle 0 0-3 0-2\n",
+        ),
+        (
+            r#"{"instance_uid":"P","points_x":[0,4,5,2,-1],"points_y":[0,0,3,5,3],"triangulations":[[[0,2],[0,3]],[[1,3],[1,4]]]}"#,
+            r#"{"content_type":"CGSHOP2026_Solution","flips":[[[[0,2]]],[[[1,4]]]],"instance_uid":"P","meta":{}}"#,
+            "total 2\n",
+        ),
+        (
+            r#"{"instance_uid":"F","points_x":[0,1,2,1],"points_y":[0,0,0,2],"triangulations":[[[1,3]]]}"#,
+            r#"{"content_type":"CGSHOP2026_Solution","flips":[[[[1,3]]]],"instance_uid":"F","meta":{}}"#,
+            "refused solution Round 0 NotConvex 0 1-3\n",
+        ),
+        (r#"[]"#, r#"[]"#, "refused instance NotObject\n"),
+        (
+            r#"{"instance_uid":"Q","points_x":[0],"points_y":[0],"triangulations":[]}"#,
+            r#"[]"#,
+            "refused solution NotObject\n",
+        ),
+        (
+            r#"{"instance_uid":"Q","points_x":[0],"points_y":[0],"triangulations":[]}"#,
+            r#"{"content_type":"CGSHOP2026_Solution","flips":[],"instance_uid":"Q","meta":{}}"#,
+            "refused instance TooFewPoints 1\n",
+        ),
+    ];
+    for (instance, solution, line) in rows {
+        let (_, told) = score_outcome(rt.alloc(), instance, solution)?;
+        assert_eq!(rt; told.as_str(), line, "{solution}");
+    }
+    Ok(())
+}
+
+// The JSON text of a list that has one item so many times.
+fn list_text(alloc: Global, item: &str, count: usize) -> Result<String, Fail> {
+    let mut text = String::from_str(alloc, "[")?;
+    for i in 0..count {
+        if i > 0 {
+            text.push_str(",")?;
+        }
+        text.push_str(item)?;
+    }
+    text.push_str("]")?;
+    Ok(text)
+}
+
+#[test]
+fn limits_are_named_in_their_order(rt: HostRuntime) -> Result<(), Fail> {
+    let rows = [
+        (16_385, 257, "refused instance TooManyPoints 16385\n"),
+        (2, 257, "refused instance TooManyInputs 257\n"),
+        (2, 256, "refused instance TooFewPoints 2\n"),
+    ];
+    for (points, inputs, line) in rows {
+        let xs = list_text(rt.alloc(), "0", points)?;
+        let lists = list_text(rt.alloc(), "[]", inputs)?;
+        let text = format!(in rt.alloc();
+            "{{\"instance_uid\":\"L\",\"points_x\":{xs},\"points_y\":{xs},\"triangulations\":{lists}}}"
+        )?;
+        let (status, told) = outcome(rt.alloc(), "q.json", text.as_str(), 9)?;
+        assert_eq!(rt; told.as_str(), line);
+        assert_eq!(rt; status, Status::Refused);
+    }
+    Ok(())
+}
