@@ -19,8 +19,7 @@ use tri_check::{PointList, RawInputs, RawInstance, Uid};
 /// The law of spelling.
 pub fn laws()
     ensures { TextsSpellOnce }
-{
-}
+{}
 
 /// The instance that a text of JSON spells. Time and memory grow with the length of the text.
 pub fn read_instance(alloc: Global, bytes: &[u8]) -> Result<RawInstance, InstanceFault>

@@ -19,8 +19,7 @@ use tri_check::{RawInputs, Uid};
 /// The law of spelling.
 pub fn laws()
     ensures { TextsSpellOnce }
-{
-}
+{}
 
 /// The solution that a text of JSON spells. Time and memory grow with the length of the text.
 pub fn read_solution(alloc: Global, bytes: &[u8]) -> Result<Solution, SolutionFault>
