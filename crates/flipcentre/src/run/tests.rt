@@ -1,7 +1,12 @@
 // Runs over stores and sinks in memory: each row a file, the words, and the status and line that are wanted.
 use super::*;
+use geo_orient::Point;
 use host_io::{MemSink, MemStore};
+use std::alloc::AllocError;
 use std::test::Fail;
+use tri_check::{
+    Bad, CheckFault, Instance, PairList, PointList, RawInputs, RawInstance, RawPair, Uid,
+};
 
 const SQUARE: &str =
     r#"{"content_type":"CGSHOP2026_Instance","instance_uid":"Q","points_x":[0,2,2,0],"points_y":[0,0,2,2],"triangulations":[[[0,1],[1,2],[2,3],[0,3],[0,2]],[[0,1],[1,2],[2,3],[0,3],[1,3]]]}"#;
@@ -388,6 +393,45 @@ fn limits_are_named_in_their_order(rt: HostRuntime) -> Result<(), Fail> {
         let (status, told) = outcome(rt.alloc(), "q.json", text.as_str(), 9)?;
         assert_eq!(rt; told.as_str(), line);
         assert_eq!(rt; status, Status::Refused);
+    }
+    Ok(())
+}
+
+// One point out of reach, one input with so many pairs, and so many further inputs.
+fn raw_of_size(alloc: Global, pairs: usize, more: usize) -> Result<RawInstance, AllocError> {
+    let mut points = PointList::make(alloc);
+    points.push(Point {
+        x: 536_870_913,
+        y: 0,
+    })?;
+    let mut input = PairList::make(alloc);
+    for _ in 0..pairs {
+        input.push(RawPair { a: 0, b: 1 })?;
+    }
+    let mut inputs = RawInputs::make(alloc);
+    inputs.push(input)?;
+    for _ in 0..more {
+        inputs.push(PairList::make(alloc))?;
+    }
+    Ok(RawInstance {
+        uid: Uid::of(alloc, "L")?,
+        points,
+        inputs,
+    })
+}
+
+#[test]
+fn pairs_are_counted_between_inputs_and_coordinates(rt: HostRuntime) -> Result<(), Fail> {
+    let rows = [
+        (2_000_001, 256, Bad::TooManyInputs(257)),
+        (2_000_001, 0, Bad::TooManyPairs(2_000_001)),
+        (2_000_000, 0, Bad::CoordinateRange(0)),
+    ];
+    for (pairs, more, bad) in rows {
+        match Instance::check(rt.alloc(), raw_of_size(rt.alloc(), pairs, more)?) {
+            Ok(_) => assert!(rt; false, "a fault is found"),
+            Err(fault) => assert_eq!(rt; fault, CheckFault::Bad(bad)),
+        }
     }
     Ok(())
 }

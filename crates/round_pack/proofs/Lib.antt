@@ -1,0 +1,6 @@
+mod Chains
+mod Groups
+mod Makers
+mod Numbers
+mod Ends
+mod Seen

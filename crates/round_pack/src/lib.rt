@@ -1,0 +1,15 @@
+//! Flip lists with the round numbers of their flips: one flip more, one flip less, and the rounds that they group into.
+#![tactic(auto)]
+
+mod chain;
+mod group;
+mod list;
+mod maker;
+mod number;
+mod track;
+
+pub use list::TrackList;
+pub use track::Track;
+
+#[cfg(test)]
+mod tests;
