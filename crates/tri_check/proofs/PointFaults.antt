@@ -9,8 +9,8 @@ use Rattle.tri_check.specs.declared.fault.Bad.{Bad}
 use Rattle.tri_check.specs.declared.fault.Bad.TheVariants.{TooManyPoints, TooManyInputs, TooManyPairs, CoordinateRange, TooFewPoints, RepeatedPoint, Collinear, NoInput}
 use Rattle.tri_check.specs.Layouts.{AreInReach}
 use Rattle.tri_check.specs.Faults.{Holds, IsFirstFault}
-use Rattle.tri_check.specs.Stages.{IsLeast, AreDistinct, IsFirstRepeat, AreSpread, rank_of, AreClear}
-use Rattle.tri_check.proofs.Order.{Less_than, rest_of, lex, lex_one, first_of}
+use Rattle.tri_check.specs.Stages.{IsLeast, AreDistinct, IsFirstRepeat, AreSpread, rank_of, AreClear, AreLimited, AreSound}
+use Rattle.tri_check.proofs.Order.{Less_than, rest_of, lex, lex_one, first_of, clear_next}
 
 module _ (points : List Point) (inputs : List (List RawPair)) where
   pub none_before : AreClear points inputs 1
@@ -72,3 +72,40 @@ module _ (points : List Point) (inputs : List (List RawPair)) where
   pub some_input : inputs ≢ [] → (c : Bad) → rank_of c ≡ 8 → ¬ Holds points inputs c
   some_input some NoInput r h = some h
   some_input some _ r h = absurd (omega arith)
+
+  -- ---- what is known after each test
+  pub clear_2 : length points ≤ 16384 → AreClear points inputs 2
+  clear_2 few = clear_next points inputs 1 none_before (few_points few)
+
+  pub clear_3 : length points ≤ 16384 → length inputs ≤ 256 → AreClear points inputs 3
+  clear_3 few some = clear_next points inputs 2 (clear_2 few) (few_inputs some)
+
+  pub limited : length points ≤ 16384 → length inputs ≤ 256 → (c : ℕ) → c ≡ sum (map (λ pairs. length pairs) inputs) → c ≤ 2000000 → AreLimited points inputs
+  limited few some c is small = record { clear = clear_next points inputs 3 (clear_3 few some) (few_pairs c is small); few_points = few; few_inputs = some }
+
+  module _ (limits : AreLimited points inputs) (reach : AreInReach points) where
+    pub clear_5 : AreClear points inputs 5
+    clear_5 = clear_next points inputs 4 limits.clear (in_range reach)
+
+    pub clear_6 : 3 ≤ length points → AreClear points inputs 6
+    clear_6 some = clear_next points inputs 5 clear_5 (some_points some)
+
+    pub clear_7 : 3 ≤ length points → AreDistinct points → AreClear points inputs 7
+    clear_7 some D = clear_next points inputs 6 (clear_6 some) (distinct D)
+
+    pub clear_8 : 3 ≤ length points → AreDistinct points → AreSpread points → AreClear points inputs 8
+    clear_8 some D S = clear_next points inputs 7 (clear_7 some D) (spread S)
+
+    pub sound : 3 ≤ length points → AreDistinct points → AreSpread points → inputs ≢ [] → AreSound points inputs
+    sound some D S inputs_there = record {
+      clear = clear_next points inputs 8 (clear_8 some D S) (some_input inputs_there);
+      usable = record { few = limits.few_points; in_reach = reach };
+      placed = record { distinct = D; spread = S };
+      some_points = some;
+      some_input = not_empty inputs inputs_there;
+      few_inputs = limits.few_inputs;
+    }
+      where
+        not_empty : (xs : List (List RawPair)) → xs ≢ [] → 1 ≤ length xs
+        not_empty [] n = absurd (n refl)
+        not_empty (x ∷ xs) n = omega arith
