@@ -1,2 +1,4 @@
 mod Once
+mod Opened
 mod Saying
+mod Shapes

@@ -11,6 +11,12 @@ use Rattle.instance_json.proofs.Once.{spelled_once}
 use Rattle.solution_json.proofs.Once as solution
 use Rattle.solution_json.specs.declared.solution.Solution.{Solution}
 use Rattle.replay.proofs.ScoreLaws.{plans_have_no_fault}
+use Rattle.replay.specs.declared.fault.ScoreFault.{ScoreFault}
+use Rattle.std.specs.Prelude.{All}
+use Rattle.std.specs.Str.Parse.{digits_value}
+use Rattle.json_value.proofs.Steps.{holds_at}
+use Rattle.lawson_law.specs.LawsonRuns.{IsLawsonRunLonger}
+use Rattle.lawson_start.specs.Starts.{AreWithin, IsOverBudget}
 use Rattle.tri_check.specs.declared.raw.RawInstance.{RawInstance}
 use Rattle.tri_check.specs.Faults.{IsValid, IsListed, IsCompletedInput}
 use Rattle.tri_check.specs.Problems.{Problem, IsProblem}
@@ -18,14 +24,22 @@ use Rattle.tri_check.specs.Accepted.{IsAccepted}
 use Rattle.tri_theory.specs.Inputs.{IsCompleted}
 use Rattle.flipcentre.specs.declared.status.Status.{Status}
 use Rattle.flipcentre.specs.declared.status.Status.TheVariants.{Done, Words, Refused, FlipBudget, Memory, ReadFault, WriteFault, No}
-use Rattle.flipcentre.specs.Words.{Command, Check, Score, Asks, IsUnasked}
-use Rattle.flipcentre.specs.Runs.{SpellsValid, NamesInstanceFault, SpellsInstance, SpellsSolution, IsSolved, NamesScoreFault, NamesFileFault, CheckSays, CommandSays, LacksFile, files_of, Says}
+use Rattle.flipcentre.specs.Words.{Command, Check, Score, Solve, Asks, IsUnasked}
+use Rattle.flipcentre.specs.Runs.{SpellsValid, NamesInstanceFault, SpellsInstance, SpellsSolution, IsSolved, NamesScoreFault, NamesFileFault, SolutionSays, CheckSays, ScoreSays, OpeningSays, SolveSays, Files, CommandSays, LacksFile, files_of, Says}
 
 -- words ask for one command
 asks_once : (words : List (List ℕ)) (c d : Command) → Asks words c → Asks words d → c ≡ d
 asks_once words (Check i) (Check j) a b = ap (λ names. Check (slice_index_or names 1 i)) (sym a.0 ∙ b.0)
 asks_once words (Check i) (Score j t) a b = let clash = sym a.0 ∙ b.0 in cc
 asks_once words (Score i s) (Check j) a b = let clash = sym a.0 ∙ b.0 in cc
+asks_once words (Check i) (Solve j t m) a (v, f, j_name, t_name, apart, other) = let clash = sym a.0 ∙ f in cc
+asks_once words (Score i s) (Solve j t m) a (v, f, j_name, t_name, apart, other) = let clash = sym a.0 ∙ f in cc
+asks_once words (Solve i s n) (Check j) (w, e, i_name, s_name, differ, number) b = let clash = sym e ∙ b.0 in cc
+asks_once words (Solve i s n) (Score j t) (w, e, i_name, s_name, differ, number) b = let clash = sym e ∙ b.0 in cc
+asks_once words (Solve i s n) (Solve j t m) (w, e, i_name, s_name, differ, number) (v, f, j_name, t_name, apart, other) =
+    let same = sym e ∙ f in
+    ap (λ k. Solve i s k) number.value
+    ∙ (ap (λ names. Solve (slice_index_or names 1 i) (slice_index_or names 2 s) (digits_value 10 (slice_index_or names 3 w))) same ∙ ap (λ k. Solve j t k) (sym other.value))
 asks_once words (Score i s) (Score j t) a b = ap (λ names. Score (slice_index_or names 1 i) (slice_index_or names 2 s)) (sym a.0 ∙ b.0)
 
 -- so the bound on calls is that of the command that was asked for
@@ -83,67 +97,107 @@ files_faultless bytes others line i s a b (inl (form, first, told)) = a.valid.0 
 files_faultless bytes others line i s a b (inr (inl (form, has, first, told))) = b.0 form first.holds
 files_faultless bytes others line i s a b (inr (inr (raw, bad, has, spells, first, told))) = valid_faultless bytes a.raw line a.valid (inr (raw, bad, spells, first, told))
 
--- what one command says of the files is one status
-done_or_refused : (held : Held) (c : Command) (k l : List ℕ) → CommandSays (Some held) c Done k → CommandSays (Some held) c Refused l → ⊥
-done_or_refused held (Check name) k l (bytes, there, (raw, valid, told)) (others, here, named) =
-    valid_faultless others raw l (subst (λ bs. SpellsValid bs raw) (some_once bytes others (sym there ∙ here)) valid) named
-done_or_refused held (Score first second) k l (bs, os, there, here, inl (clash, named)) other = let e = clash in cc
-done_or_refused held (Score first second) k l (bs, os, there, here, inr (i, s, a, b, solved)) (cs, ps, with_first, with_second, inl (is, named)) =
-    files_faultless cs ps l i s (subst (λ bytes. SpellsInstance bytes i) (some_once bs cs (sym there ∙ with_first)) a) (subst (λ bytes. SpellsSolution bytes s) (some_once os ps (sym here ∙ with_second)) b) named
-done_or_refused held (Score first second) k l (bs, os, there, here, inr (i, s, a, b, solved)) (cs, ps, with_first, with_second, inr (j, t, c, d, named)) =
-    let problem = instance_once bs i j a (subst (λ bytes. SpellsInstance bytes j) (sym (some_once bs cs (sym there ∙ with_first))) c) in
-    let given = solution.spelled_once os s t b.1 (subst (λ bytes. SpellsSolution bytes t) (sym (some_once os ps (sym here ∙ with_second))) d).1 in
-    solved_faultless i s l a.problem solved.0 (subst (λ p. NamesScoreFault p s l) (sym problem) (subst (λ q. NamesScoreFault j q l) (sym given) named))
+-- ---- what a command says of the files is one status
 
-done_reads : (held : Held) (c : Command) (k : List ℕ) → CommandSays (Some held) c Done k → LacksFile (Some held) c → ⊥
-done_reads held (Check name) k says lacks = held_there held name says.0 says.1 lacks
-done_reads held (Score first second) k (bs, os, there, here, says) (inl lacks) = held_there held first bs there lacks
-done_reads held (Score first second) k (bs, os, there, here, says) (inr lacks) = held_there held second os here lacks
+-- two that say one of two statuses, for reasons that exclude each other
+one_of_two : (s t u v : Status) (P Q R S : Type 0) → (P → S → ⊥) → (R → Q → ⊥) → ((s ≡ u) × P) ⊎ ((s ≡ v) × Q) → ((t ≡ u) × R) ⊎ ((t ≡ v) × S) → s ≡ t
+one_of_two s t u v P Q R S f g (inl (d, p)) (inl (e, r)) = d ∙ sym e
+one_of_two s t u v P Q R S f g (inl (d, p)) (inr (e, q)) = absurd (f p q)
+one_of_two s t u v P Q R S f g (inr (d, p)) (inl (e, r)) = absurd (g r p)
+one_of_two s t u v P Q R S f g (inr (d, p)) (inr (e, q)) = d ∙ sym e
 
-refused_reads : (held : Held) (c : Command) (k : List ℕ) → CommandSays (Some held) c Refused k → LacksFile (Some held) c → ⊥
-refused_reads held (Check name) k says lacks = held_there held name says.0 says.1 lacks
-refused_reads held (Score first second) k (bs, os, there, here, says) (inl lacks) = held_there held first bs there lacks
-refused_reads held (Score first second) k (bs, os, there, here, says) (inr lacks) = held_there held second os here lacks
+check_kind : (bytes : List ℕ) (s : Status) (k : List ℕ) → CheckSays bytes s k → ((s ≡ Done) × CheckSays bytes Done k) ⊎ ((s ≡ Refused) × NamesInstanceFault bytes k)
+check_kind bytes Done k a = inl (refl, a)
+check_kind bytes Refused k a = inr (refl, a)
+check_kind bytes Words k a = absurd a
+check_kind bytes FlipBudget k a = absurd a
+check_kind bytes Memory k a = absurd a
+check_kind bytes ReadFault k a = absurd a
+check_kind bytes WriteFault k a = absurd a
+check_kind bytes No k a = absurd a
+
+check_once : (bytes : List ℕ) (s t : Status) (k l : List ℕ) → CheckSays bytes s k → CheckSays bytes t l → s ≡ t
+check_once bytes s t k l a b =
+    one_of_two s t Done Refused (CheckSays bytes Done k) (NamesInstanceFault bytes k) (CheckSays bytes Done l) (NamesInstanceFault bytes l)
+    (λ p q. valid_faultless bytes p.0 l p.1 q) (λ p q. valid_faultless bytes p.0 k p.1 q) (check_kind bytes s k a) (check_kind bytes t l b)
+
+solution_kind : (i : Problem) (x : Solution) (s : Status) (k : List ℕ) → SolutionSays i x s k → ((s ≡ Done) × IsSolved i x) ⊎ ((s ≡ Refused) × NamesScoreFault i x k)
+solution_kind i x Done k a = inl (refl, a.0)
+solution_kind i x Refused k a = inr (refl, a)
+solution_kind i x Words k a = absurd a
+solution_kind i x FlipBudget k a = absurd a
+solution_kind i x Memory k a = absurd a
+solution_kind i x ReadFault k a = absurd a
+solution_kind i x WriteFault k a = absurd a
+solution_kind i x No k a = absurd a
+
+module _ (bytes others : List ℕ) where
+  score_once : (s t : Status) (k l : List ℕ) → ScoreSays bytes others s k → ScoreSays bytes others t l → s ≡ t
+  score_once s t k l (inl (d, p)) (inl (e, q)) = d ∙ sym e
+  score_once s t k l (inl (d, p)) (inr (i, x, a, b, says)) = absurd (files_faultless bytes others k i x a b p)
+  score_once s t k l (inr (i, x, a, b, says)) (inl (e, q)) = absurd (files_faultless bytes others l i x a b q)
+  score_once s t k l (inr (i, x, a, b, says)) (inr (j, y, c, d, told)) =
+      let problem = instance_once bytes i j a c in
+      let given = solution.spelled_once others x y b.1 d.1 in
+      let other = subst (λ p. SolutionSays p x t l) (sym problem) (subst (λ z. SolutionSays j z t l) (sym given) told) in
+      one_of_two s t Done Refused (IsSolved i x) (NamesScoreFault i x k) (IsSolved i x) (NamesScoreFault i x l)
+      (solved_faultless i x l a.problem) (solved_faultless i x k a.problem) (solution_kind i x s k says) (solution_kind i x t l other)
+
+abbrev pub IsTooLong : Problem → ℕ → Type 0
+IsTooLong i budget = (t : ℕ) × IsOverBudget i.points i.inputs budget t
+
+opening_kind : (i : Problem) (n : ℕ) (s : Status) (k : List ℕ) (text : Option (List ℕ)) → OpeningSays i n s k text → ((s ≡ Done) × AreWithin i.points i.inputs n) ⊎ ((s ≡ FlipBudget) × IsTooLong i n)
+opening_kind i n Done k text (x, is, line, file) = inl (refl, is.opened.within)
+opening_kind i n FlipBudget k text (t, over, line, file) = inr (refl, (t, over))
+opening_kind i n Words k text a = absurd a
+opening_kind i n Refused k text a = absurd a
+opening_kind i n Memory k text a = absurd a
+opening_kind i n ReadFault k text a = absurd a
+opening_kind i n WriteFault k text a = absurd a
+opening_kind i n No k text a = absurd a
+
+within_budget : (i : Problem) (n : ℕ) → AreWithin i.points i.inputs n → IsTooLong i n → ⊥
+within_budget i n within (t, over) = holds_at (λ input. ¬ IsLawsonRunLonger i.points input n) i.inputs t over.input within over.there over.longer
+
+module _ (bytes : List ℕ) (budget : ℕ) where
+  solve_once : (s t : Status) (k l : List ℕ) (f g : Option (List ℕ)) → SolveSays bytes budget s k f → SolveSays bytes budget t l g → s ≡ t
+  solve_once s t k l f g (inl (d, p, none)) (inl (e, q, empty)) = d ∙ sym e
+  solve_once s t k l f g (inl (d, p, none)) (inr (i, a, says)) = absurd (valid_faultless bytes a.raw k a.valid p)
+  solve_once s t k l f g (inr (i, a, says)) (inl (e, q, empty)) = absurd (valid_faultless bytes a.raw l a.valid q)
+  solve_once s t k l f g (inr (i, a, says)) (inr (j, c, told)) =
+      let other = subst (λ p. OpeningSays p budget t l g) (sym (instance_once bytes i j a c)) told in
+      one_of_two s t Done FlipBudget (AreWithin i.points i.inputs budget) (IsTooLong i budget) (AreWithin i.points i.inputs budget) (IsTooLong i budget)
+      (within_budget i budget) (within_budget i budget) (opening_kind i budget s k f says) (opening_kind i budget t l g other)
+
+module _ (held : Held) where
+  -- one name holds one file
+  same_file : (P : List ℕ → Type 0) (name bytes others : List ℕ) → map.get held name ≡ Some bytes → map.get held name ≡ Some others → P others → P bytes
+  same_file P name bytes others e f p = subst P (sym (some_once bytes others (sym e ∙ f))) p
+
+  command_once : (c : Command) (s t : Status) (k l : List ℕ) (f g : Files) → CommandSays (Some held) c s k f → CommandSays (Some held) c t l g → s ≡ t
+  command_once (Check name) s t k l f g (bytes, there, says, none) (others, here, told, empty) =
+      check_once bytes s t k l says (same_file (λ b. CheckSays b t l) name bytes others there here told)
+  command_once (Score first second) s t k l f g (bytes, others, there, here, says, none) (bs, os, with_first, with_second, told, empty) =
+      score_once bytes others s t k l says
+      (same_file (λ b. ScoreSays b others t l) first bytes bs there with_first (same_file (λ o. ScoreSays bs o t l) second others os here with_second told))
+  command_once (Solve name target n) s t k l f g (bytes, text, there, says, file) (others, other, here, told, same) =
+      solve_once bytes n s t k l text other says (same_file (λ b. SolveSays b n t l other) name bytes others there here told)
+
+  command_reads : (c : Command) (s : Status) (k : List ℕ) (f : Files) → CommandSays (Some held) c s k f → LacksFile (Some held) c → ⊥
+  command_reads (Check name) s k f (bytes, there, says, none) lacks = held_there held name bytes there lacks
+  command_reads (Score first second) s k f (bytes, others, there, here, says, none) (inl lacks) = held_there held first bytes there lacks
+  command_reads (Score first second) s k f (bytes, others, there, here, says, none) (inr lacks) = held_there held second others here lacks
+  command_reads (Solve name target n) s k f (bytes, text, there, says, file) lacks = held_there held name bytes there lacks
 
 module _ (words : List (List ℕ)) (held : Held) where
-  -- the same, for words
-  apart : (P Q : Command → Type 0) → ((c : Command) → P c → Q c → ⊥) → (c d : Command) → Asks words c → Asks words d → P c → Q d → ⊥
-  apart P Q clash c d a b p q = clash d (subst P (asks_once words c d a b) p) q
-
-  pub says_once : (s t : Status) (k l : List ℕ) → Says words (Some held) s k → Says words (Some held) t l → s ≡ t
-  says_once Words Words k l a b = refl
-  says_once Words Done k l a b = absurd (a.0 b.0 b.1)
-  says_once Words Refused k l a b = absurd (a.0 b.0 b.1)
-  says_once Words ReadFault k l a b = absurd (a.0 b.0 b.1)
-  says_once Words FlipBudget k l a b = absurd b
-  says_once Words Memory k l a b = absurd b
-  says_once Words WriteFault k l a b = absurd b
-  says_once Words No k l a b = absurd b
-  says_once Done Words k l a b = absurd (b.0 a.0 a.1)
-  says_once Done Done k l a b = refl
-  says_once Done Refused k l a b = absurd (apart (λ c. CommandSays (Some held) c Done k) (λ c. CommandSays (Some held) c Refused l) (λ c. done_or_refused held c k l) a.0 b.0 a.1 b.1 a.2 b.2)
-  says_once Done ReadFault k l a b = absurd (apart (λ c. CommandSays (Some held) c Done k) (LacksFile (Some held)) (λ c. done_reads held c k) a.0 b.0 a.1 b.1 a.2 b.2)
-  says_once Done FlipBudget k l a b = absurd b
-  says_once Done Memory k l a b = absurd b
-  says_once Done WriteFault k l a b = absurd b
-  says_once Done No k l a b = absurd b
-  says_once Refused Words k l a b = absurd (b.0 a.0 a.1)
-  says_once Refused Done k l a b = absurd (apart (λ c. CommandSays (Some held) c Done l) (λ c. CommandSays (Some held) c Refused k) (λ c. done_or_refused held c l k) b.0 a.0 b.1 a.1 b.2 a.2)
-  says_once Refused Refused k l a b = refl
-  says_once Refused ReadFault k l a b = absurd (apart (λ c. CommandSays (Some held) c Refused k) (LacksFile (Some held)) (λ c. refused_reads held c k) a.0 b.0 a.1 b.1 a.2 b.2)
-  says_once Refused FlipBudget k l a b = absurd b
-  says_once Refused Memory k l a b = absurd b
-  says_once Refused WriteFault k l a b = absurd b
-  says_once Refused No k l a b = absurd b
-  says_once ReadFault Words k l a b = absurd (b.0 a.0 a.1)
-  says_once ReadFault Done k l a b = absurd (apart (λ c. CommandSays (Some held) c Done l) (LacksFile (Some held)) (λ c. done_reads held c l) b.0 a.0 b.1 a.1 b.2 a.2)
-  says_once ReadFault Refused k l a b = absurd (apart (λ c. CommandSays (Some held) c Refused l) (LacksFile (Some held)) (λ c. refused_reads held c l) b.0 a.0 b.1 a.1 b.2 a.2)
-  says_once ReadFault ReadFault k l a b = refl
-  says_once ReadFault FlipBudget k l a b = absurd b
-  says_once ReadFault Memory k l a b = absurd b
-  says_once ReadFault WriteFault k l a b = absurd b
-  says_once ReadFault No k l a b = absurd b
-  says_once FlipBudget t k l a b = absurd a
-  says_once Memory t k l a b = absurd a
-  says_once WriteFault t k l a b = absurd a
-  says_once No t k l a b = absurd a
+  pub says_once : (s t : Status) (k l : List ℕ) (f g : Files) → Says words (Some held) s k f → Says words (Some held) t l g → s ≡ t
+  says_once s t k l f g (inl (unasked, d, line, none)) (inl (unknown, e, told, empty)) = d ∙ sym e
+  says_once s t k l f g (inl (unasked, d, line, none)) (inr (c, asks, says)) = absurd (unasked c asks)
+  says_once s t k l f g (inr (c, asks, says)) (inl (unknown, e, told, empty)) = absurd (unknown c asks)
+  says_once s t k l f g (inr (c, asks, inl says)) (inr (d, other, inl told)) =
+      command_once held c s t k l f g says (subst (λ e. CommandSays (Some held) e t l g) (sym (asks_once words c d asks other)) told)
+  says_once s t k l f g (inr (c, asks, inl says)) (inr (d, other, inr (lacks, e, line, none))) =
+      absurd (command_reads held c s k f says (subst (LacksFile (Some held)) (sym (asks_once words c d asks other)) lacks))
+  says_once s t k l f g (inr (c, asks, inr (lacks, e, line, none))) (inr (d, other, inl told)) =
+      absurd (command_reads held d t l g told (subst (LacksFile (Some held)) (asks_once words c d asks other) lacks))
+  says_once s t k l f g (inr (c, asks, inr (lacks, e, line, none))) (inr (d, other, inr (lacking, h, told, empty))) = e ∙ sym h

@@ -1,4 +1,5 @@
 pub mod Lines
+pub mod Openings
 pub mod Runs
 pub mod Statuses
 pub mod Words

@@ -69,6 +69,14 @@ form_line form = line (instance_refused (form_words form))
 abbrev pub total_line : ℕ → List ℕ
 total_line total = line (codes "total" ∷ decimal total ∷ [])
 
+-- the rounds of a solution, and a number that no solution has fewer rounds than
+abbrev pub solved_line : ℕ → ℕ → List ℕ
+solved_line total bound = line (codes "total" ∷ decimal total ∷ codes "bound" ∷ decimal bound ∷ [])
+
+-- the run of the input with this place is longer than the budget
+abbrev pub budget_line : ℕ → List ℕ
+budget_line t = line (codes "flip" ∷ codes "budget" ∷ decimal t ∷ [])
+
 -- a solution is refused, for this fault
 abbrev pub solution_refused : List (List ℕ) → List (List ℕ)
 solution_refused fault = codes "refused" ∷ codes "solution" ∷ fault

@@ -1,7 +1,7 @@
 -- What a run of the program says of the files that its words name.
-use Rattle.std.specs.Prelude.{◌≡◌, ◌≢◌, ◌⊎◌, ℕ, ◌+◌, ◌<◌, ◌≤◌, List, [], ◌++◌, take, length, Option, Some, None, string_bytes}
+use Rattle.std.specs.Prelude.{◌≡◌, ◌≢◌, ◌⊎◌, ℕ, ◌+◌, ◌<◌, ◌≤◌, List, [], ◌∷◌, ◌++◌, take, length, Option, Some, None, Contains, string_bytes}
 use Rattle.std.specs.FinMap as map
-use Rattle.host_io.specs.Store.{Held, Rose}
+use Rattle.host_io.specs.Store.{Held, Rose, Leaves}
 use Rattle.instance_json.specs.declared.fault.Form.{Form}
 use Rattle.instance_json.specs.Faults.{HasForm, IsFirstFormFault}
 use Rattle.instance_json.specs.Forms.{Spells}
@@ -15,6 +15,7 @@ use Rattle.tri_theory.specs.Rounds.{IsPlan, total}
 use Rattle.solution_json.specs.declared.fault.SolForm.{SolForm}
 use Rattle.solution_json.specs.declared.solution.Solution.{Solution}
 use Rattle.solution_json.specs.Faults.{IsFirstSolFault}
+use Rattle.solution_json.specs.Texts.{text_of}
 use Rattle.solution_json.specs.Faults as solution_fault
 use Rattle.solution_json.specs.Forms as solution_form
 use Rattle.replay.specs.declared.fault.ScoreFault.{ScoreFault}
@@ -22,8 +23,10 @@ use Rattle.replay.specs.declared.fault.ScoreFault.TheVariants.{OutOfMemory}
 use Rattle.replay.specs.Scores.{IsScoreFault, AreAllDistinct}
 use Rattle.flipcentre.specs.declared.status.Status.{Status}
 use Rattle.flipcentre.specs.declared.status.Status.TheVariants.{Done, Words, Refused, FlipBudget, Memory, ReadFault, WriteFault, No}
-use Rattle.flipcentre.specs.Words.{Command, Check, Score, Asks, IsUnasked}
-use Rattle.flipcentre.specs.Lines.{words_line, valid_line, bad_line, form_line, total_line, solution_form_line, other_uid_line, score_fault_line}
+use Rattle.flipcentre.specs.Words.{Command, Check, Score, Solve, Asks, IsUnasked}
+use Rattle.flipcentre.specs.Lines.{words_line, valid_line, bad_line, form_line, total_line, solution_form_line, other_uid_line, score_fault_line, solved_line, budget_line}
+use Rattle.lawson_start.specs.Starts.{IsOverBudget}
+use Rattle.flipcentre.specs.Openings.{IsOpened}
 
 -- ---- the files
 
@@ -108,28 +111,113 @@ ScoreSays bytes others status line =
     ((status ≡ Refused) × NamesFileFault bytes others line)
     ⊎ ((instance : Problem) × (solution : Solution) × SpellsInstance bytes instance × SpellsSolution others solution × SolutionSays instance solution status line)
 
--- what a command says of the files
-abbrev pub CommandSays : Option Held → Command → Status → List ℕ → Type 0
-CommandSays held (Check instance) status line = (bytes : List ℕ) × MayHold held instance bytes × CheckSays bytes status line
-CommandSays held (Score instance solution) status line = (bytes : List ℕ) × (others : List ℕ) × MayHold held instance bytes × MayHold held solution others × ScoreSays bytes others status line
+-- the solution that `solve` finds is the opening of the instance. It is one that `score` accepts, and what its text spells
+pub record IsFound (instance : Problem) (budget : ℕ) (solution : Solution) : Type 0 where
+  pub opened : IsOpened instance budget solution.lists
+  pub solved : IsSolved instance solution
+  pub written : SpellsSolution (text_of solution) solution
+
+-- what `solve` says of an instance, and the text that it writes, if one: a solution with its total, or the first input whose run is longer than the budget
+abbrev pub OpeningSays : Problem → ℕ → Status → List ℕ → Option (List ℕ) → Type 0
+OpeningSays instance budget Done line text = (solution : Solution) × IsFound instance budget solution × (line ≡ solved_line (total solution.lists) 0) × (text ≡ Some (text_of solution))
+OpeningSays instance budget FlipBudget line text = (t : ℕ) × IsOverBudget instance.points instance.inputs budget t × (line ≡ budget_line t) × (text ≡ None)
+OpeningSays instance budget _ line text = ⊥
+
+-- what `solve` says of the bytes of a file: their first fault, or what it says of the instance that they spell
+abbrev pub SolveSays : List ℕ → ℕ → Status → List ℕ → Option (List ℕ) → Type 0
+SolveSays bytes budget status line text =
+    ((status ≡ Refused) × NamesInstanceFault bytes line × (text ≡ None))
+    ⊎ ((instance : Problem) × SpellsInstance bytes instance × OpeningSays instance budget status line text)
+
+-- files that are written: their names and their bytes
+abbrev pub Files : Type 0
+Files = List (List ℕ × List ℕ)
+
+-- the text under the name, where there is one
+abbrev pub file_under : List ℕ → Option (List ℕ) → Files
+file_under name None = []
+file_under name (Some text) = (name, text) ∷ []
+
+-- what a command says of the files, and the files that it writes
+abbrev pub CommandSays : Option Held → Command → Status → List ℕ → Files → Type 0
+CommandSays held (Check instance) status line files = (bytes : List ℕ) × MayHold held instance bytes × CheckSays bytes status line × (files ≡ [])
+CommandSays held (Score instance solution) status line files =
+    (bytes : List ℕ) × (others : List ℕ) × MayHold held instance bytes × MayHold held solution others × ScoreSays bytes others status line × (files ≡ [])
+CommandSays held (Solve instance solution budget) status line files =
+    (bytes : List ℕ) × (text : Option (List ℕ)) × MayHold held instance bytes × SolveSays bytes budget status line text × (files ≡ file_under solution text)
 
 -- a file that the command reads isn't held
 abbrev pub LacksFile : Option Held → Command → Type 0
 LacksFile held (Check instance) = IsUnheld held instance
 LacksFile held (Score instance solution) = IsUnheld held instance ⊎ IsUnheld held solution
+LacksFile held (Solve instance solution budget) = IsUnheld held instance
 
--- how many files the command reads
+-- how many files the command reads or writes
 abbrev pub files_of : Command → ℕ
 files_of (Check instance) = 1
 files_of (Score instance solution) = 2
+files_of (Solve instance solution budget) = 2
 
--- what a run says: the status and the line that the words and the files call for. Budgets, memory, writes and certificates aren't theirs to say
-abbrev pub Says : List (List ℕ) → Option Held → Status → List ℕ → Type 0
-Says words held Words line = IsUnasked words × (line ≡ words_line)
-Says words held Done line = (c : Command) × Asks words c × CommandSays held c Done line
-Says words held Refused line = (c : Command) × Asks words c × CommandSays held c Refused line
-Says words held ReadFault line = (c : Command) × Asks words c × LacksFile held c × (line ≡ [])
-Says words held _ line = ⊥
+-- the names under which the command writes
+abbrev pub written_by : Command → List (List ℕ)
+written_by (Check instance) = []
+written_by (Score instance solution) = []
+written_by (Solve instance solution budget) = solution ∷ []
+
+-- what a run says, and the files that it writes: the status and the line that the words and the files call for. Memory and writes that fail aren't theirs to say
+abbrev pub Says : List (List ℕ) → Option Held → Status → List ℕ → Files → Type 0
+Says words held status line files =
+    (IsUnasked words × (status ≡ Words) × (line ≡ words_line) × (files ≡ []))
+    ⊎ ((c : Command) × Asks words c × (CommandSays held c status line files ⊎ (LacksFile held c × (status ≡ ReadFault) × (line ≡ []) × (files ≡ []))))
+
+-- ---- what was written
+
+-- where the store tells, exactly these files were written, one after the other
+abbrev pub AreWritten : Held → Held → Files → Type 0
+AreWritten old new [] = new ≡ old
+AreWritten old new (file ∷ files) = AreWritten (map.insert old file.0 file.1) new files
+
+abbrev pub HasWritten : Option Held → Option Held → Files → Type 0
+HasWritten None new files = new ≡ None
+HasWritten (Some old) new files = (later : Held) × (new ≡ Some later) × AreWritten old later files
+
+-- where the store tells, some of these files were written, and of the next one nothing or a first part
+abbrev pub AreCutOff : Held → Held → Files → Type 0
+AreCutOff old new [] = ⊥
+AreCutOff old new (file ∷ files) = Leaves old new file.0 file.1 ⊎ AreCutOff (map.insert old file.0 file.1) new files
+
+abbrev pub HasBrokenOff : Option Held → Option Held → Files → Type 0
+HasBrokenOff None new files = new ≡ None
+HasBrokenOff (Some old) new files = (later : Held) × (new ≡ Some later) × AreCutOff old later files
+
+-- a command says this of the files, and the files that it writes were written
+abbrev pub CommandDoes : Option Held → Option Held → Command → Status → List ℕ → Type 0
+CommandDoes held later c status line = (files : Files) × CommandSays held c status line files × HasWritten held later files
+
+-- a command says something of the files, and the writing of its files broke off
+abbrev pub CommandBreaksOff : Option Held → Option Held → Command → Type 0
+CommandBreaksOff held later c = (status : Status) × (line : List ℕ) × (files : Files) × CommandSays held c status line files × HasBrokenOff held later files
+
+-- the run says this status and line, and its files were written
+abbrev pub Does : List (List ℕ) → Option Held → Option Held → Status → List ℕ → Type 0
+Does words held later status line = (files : Files) × Says words held status line files × HasWritten held later files
+
+-- the run says some status, and the writing of its files broke off
+abbrev pub BreaksOff : List (List ℕ) → Option Held → Option Held → Type 0
+BreaksOff words held later = (status : Status) × (line : List ℕ) × (files : Files) × Says words held status line files × HasBrokenOff held later files
+
+-- the command, if it is one, doesn't write under the name
+abbrev pub LeavesName : List (List ℕ) → List ℕ → Type 0
+LeavesName words name = (c : Command) → Asks words c → ¬ Contains (written_by c) name
+
+-- where the store tells, it holds what it held under all names but those that the command writes
+abbrev pub KeepsOthers : List (List ℕ) → Option Held → Option Held → Type 0
+KeepsOthers words None new = new ≡ None
+KeepsOthers words (Some old) new = (later : Held) × (new ≡ Some later) × ((name : List ℕ) → LeavesName words name → map.get later name ≡ map.get old name)
+
+-- the command, if it is one, writes no file
+abbrev pub IsReadOnly : List (List ℕ) → Type 0
+IsReadOnly words = (c : Command) → Asks words c → written_by c ≡ []
 
 -- ---- what was told
 
@@ -143,24 +231,32 @@ abbrev pub IsCutOff : Option (List ℕ) → Option (List ℕ) → List ℕ → T
 IsCutOff None new line = new ≡ None
 IsCutOff (Some old) new line = (n : ℕ) × (n < length line) × (new ≡ Some (old ++ take n line))
 
--- the run says this status, and its line was told
-abbrev pub Tells : List (List ℕ) → Option Held → Status → Option (List ℕ) → Option (List ℕ) → Type 0
-Tells words held status old new = (line : List ℕ) × Says words held status line × IsTold old new line
+-- the run says this status, its files were written and its line was told
+abbrev pub Tells : List (List ℕ) → Option Held → Option Held → Status → Option (List ℕ) → Option (List ℕ) → Type 0
+Tells words held later status old new = (line : List ℕ) × Does words held later status line × IsTold old new line
 
--- the run says some status, and the telling of its line was cut off
-abbrev pub TellsPart : List (List ℕ) → Option Held → Option (List ℕ) → Option (List ℕ) → Type 0
-TellsPart words held old new = (status : Status) × (line : List ℕ) × Says words held status line × IsCutOff old new line
+-- the run says some status: its files were written and the telling of its line was cut off, or the writing broke off and nothing was told
+abbrev pub TellsPart : List (List ℕ) → Option Held → Option Held → Option (List ℕ) → Option (List ℕ) → Type 0
+TellsPart words held later old new =
+    ((status : Status) × (line : List ℕ) × Does words held later status line × IsCutOff old new line)
+    ⊎ (BreaksOff words held later × (new ≡ old))
 
 -- a file wasn't read: reading failed, or the file isn't held
 abbrev pub HasReadCause : List (List ℕ) → Option Held → ℕ → ℕ → Type 0
-HasReadCause words held before now = Rose before now ⊎ ((line : List ℕ) × Says words held ReadFault line)
+HasReadCause words held before now = Rose before now ⊎ ((c : Command) × Asks words c × LacksFile held c)
 
 -- the store is called at most once for each file
 abbrev pub CallsOnce : List (List ℕ) → ℕ → ℕ → Type 0
 CallsOnce words before now = (c : Command) → Asks words c → now ≤ before + files_of c
 
--- where the store tells what it holds, and neither a fault of reading nor one of the sink was counted, the run ends as the words and the files call for, or for want of memory
-abbrev pub Completes : List (List ℕ) → Option Held → ℕ → ℕ → ℕ → ℕ → Status → Type 0
-Completes words held reads_before reads_now puts_before puts_now result =
-    (told : Held) (status : Status) (line : List ℕ) → held ≡ Some told → Says words (Some told) status line → ¬ Rose reads_before reads_now → ¬ Rose puts_before puts_now
+-- no fault was counted
+pub record IsFaultless (reads_before reads_now writes_before writes_now puts_before puts_now : ℕ) : Type 0 where
+  pub reads : ¬ Rose reads_before reads_now
+  pub writes : ¬ Rose writes_before writes_now
+  pub puts : ¬ Rose puts_before puts_now
+
+-- where the store tells what it holds, and no fault was counted, the run ends as the words and the files call for, or for want of memory
+abbrev pub Completes : List (List ℕ) → Option Held → Type 0 → Status → Type 0
+Completes words held Faultless result =
+    (told : Held) (status : Status) (line : List ℕ) (files : Files) → held ≡ Some told → Says words (Some told) status line files → Faultless
     → (result ≡ status) ⊎ (result ≡ Memory)

@@ -3,7 +3,7 @@ ghost use Rattle.std.specs.Prelude.{◌≡◌, ◌⊎◌, length, IfOk, IsErrOf,
 ghost use Rattle.host_io.specs.Store.{Counts, Rose};
 ghost use Rattle.flipcentre.specs.Lines.{valid_line};
 ghost use Rattle.flipcentre.specs.Words.{Check};
-ghost use Rattle.flipcentre.specs.Runs.{CheckSays, CommandSays, LacksFile};
+ghost use Rattle.flipcentre.specs.Runs.{CheckSays, CommandDoes, LacksFile};
 
 use crate::lines::{bad_text, form_text, valid_text};
 use crate::reply::{Quiet, Reply, read_file, with_line};
@@ -17,7 +17,8 @@ use tri_check::{CheckFault, Instance};
 fn valid_reply(alloc: Global, instance: &Instance) -> Result<Reply, Quiet>
     ensures says { IfOk result (λ r. (r.status ≡ Status.Done)
         × (string_bytes r.line ≡ valid_line (length instance.now.points) (length instance.now.inputs))) }
-    ensures memory { IsErrOf result Quiet.ReadFault → ⊥ }
+    ensures read { IsErrOf result Quiet.ReadFault → ⊥ }
+    ensures write { IsErrOf result Quiet.WriteFault → ⊥ }
 {
     with_line(
         Status::Done,
@@ -28,7 +29,8 @@ fn valid_reply(alloc: Global, instance: &Instance) -> Result<Reply, Quiet>
 // What `check` says of the bytes of a file.
 fn check_bytes(alloc: Global, bytes: &[u8]) -> Result<Reply, Quiet>
     ensures says { IfOk result (λ r. CheckSays bytes.now r.status (string_bytes r.line)) }
-    ensures memory { IsErrOf result Quiet.ReadFault → ⊥ }
+    ensures read { IsErrOf result Quiet.ReadFault → ⊥ }
+    ensures write { IsErrOf result Quiet.WriteFault → ⊥ }
 {
     let raw = match read_instance(alloc, bytes) {
         Ok(raw) => raw,
@@ -44,9 +46,10 @@ fn check_bytes(alloc: Global, bytes: &[u8]) -> Result<Reply, Quiet>
 
 // What `check` says of a file.
 pub(crate) fn check_file<S: Store>(alloc: Global, store: &mut S, name: &str) -> Result<Reply, Quiet>
-    ensures says { IfOk result (λ r. CommandSays (S.held store.old) (Check name.now) r.status (string_bytes r.line)) }
+    ensures does { IfOk result (λ r. CommandDoes (S.held store.old) (S.held store.new) (Check name.now) r.status (string_bytes r.line)) }
     ensures cause { IsErrOf result Quiet.ReadFault → Rose (S.read_faults store.old) (S.read_faults store.new)
         ⊎ LacksFile (S.held store.old) (Check name.now) }
+    ensures write { IsErrOf result Quiet.WriteFault → ⊥ }
     ensures kept { S.held store.new ≡ S.held store.old }
     ensures writes { S.write_faults store.new ≡ S.write_faults store.old }
     ensures counted { Counts (S.calls store.old) (S.calls store.new) }

@@ -7,6 +7,7 @@ mod reply;
 mod run;
 mod scoring;
 mod solution_lines;
+mod solving;
 mod status;
 mod words;
 

@@ -1,37 +1,59 @@
 // The top call: from the words to the status and the printed line.
 ghost use Rattle.std.specs.Prelude.{◌≡◌, ◌≢◌, ◌⊎◌, IfOk, IsErrOf, string_bytes};
 ghost use Rattle.host_io.specs.Store.{Rose};
+ghost use Rattle.flipcentre.specs.Lines.{words_line};
 ghost use Rattle.flipcentre.specs.Words.{texts, IsUnasked};
-ghost use Rattle.flipcentre.specs.Runs.{Says, HasReadCause, CallsOnce, Completes, Tells, TellsPart};
+ghost use Rattle.flipcentre.specs.Runs.{Does, BreaksOff, KeepsOthers, IsReadOnly, HasReadCause, CallsOnce, IsFaultless, Completes, Tells, TellsPart};
 
 use crate::checking::check_file;
 use crate::lines::words_text;
 use crate::reply::{Quiet, Reply, with_line};
 use crate::scoring::score_files;
+use crate::solving::solve_file;
 use crate::status::Status;
 use crate::words::{Asked, read_words};
 use host_io::{Sink, Store, put_all};
 use std::alloc::Global;
 
-// What the words and the files call for.
+// What is said of words that are those of no command.
+fn words_reply(alloc: Global) -> Result<Reply, Quiet>
+    ensures says { IfOk result (λ r. (r.status ≡ Status.Words) × (string_bytes r.line ≡ words_line)) }
+    ensures read { IsErrOf result Quiet.ReadFault → ⊥ }
+    ensures write { IsErrOf result Quiet.WriteFault → ⊥ }
+{
+    with_line(Status::Words, words_text(alloc))
+}
+
+// Does what the words call for, all but the printing.
 fn reply_to<S: Store>(alloc: Global, words: &[String], store: &mut S) -> Result<Reply, Quiet>
-    ensures says { IfOk result (λ r. Says (texts words.now) (S.held store.old) r.status (string_bytes r.line)) }
+    ensures does { IfOk result (λ r. Does (texts words.now) (S.held store.old) (S.held store.new) r.status (string_bytes r.line)) }
     ensures cause { IsErrOf result Quiet.ReadFault
         → HasReadCause (texts words.now) (S.held store.old) (S.read_faults store.old) (S.read_faults store.new) }
+    ensures unread { IsErrOf result Quiet.ReadFault → S.held store.new ≡ S.held store.old }
+    ensures memory { IsErrOf result Quiet.Memory → S.held store.new ≡ S.held store.old }
+    ensures unwritten { IsErrOf result Quiet.WriteFault → Rose (S.write_faults store.old) (S.write_faults store.new) }
+    ensures broken { IsErrOf result Quiet.WriteFault → BreaksOff (texts words.now) (S.held store.old) (S.held store.new) }
     ensures asked { IsErrOf result Quiet.ReadFault → ¬ IsUnasked (texts words.now) }
-    ensures kept { S.held store.new ≡ S.held store.old }
-    ensures writes { S.write_faults store.new ≡ S.write_faults store.old }
+    ensures asked_to_write { IsErrOf result Quiet.WriteFault → ¬ IsUnasked (texts words.now) }
+    ensures read_only { IsReadOnly (texts words.now) → S.write_faults store.new ≡ S.write_faults store.old }
     ensures calls { CallsOnce (texts words.now) (S.calls store.old) (S.calls store.new) }
     ensures uncalled { IsUnasked (texts words.now) → S.calls store.new ≡ S.calls store.old }
 {
     match read_words(words) {
-        None => with_line(Status::Words, words_text(alloc)),
+        None => words_reply(alloc),
         Some(Asked::Check { instance }) => check_file(alloc, store, instance),
         Some(Asked::Score { instance, solution }) => score_files(alloc, store, instance, solution),
+        Some(
+            Asked::Solve {
+                instance,
+                solution,
+                budget,
+            },
+        ) => solve_file(alloc, store, instance, solution, budget),
     }
 }
 
-/// Does what the words ask for: reads the files that they name from the store, and puts one line.
+/// Does what the words ask for: reads and writes the files that they name, and puts one line.
 ///
 /// `words` are those after the program's name.
 pub fn run_plain<S: Store, O: Sink>(
@@ -40,38 +62,44 @@ pub fn run_plain<S: Store, O: Sink>(
     store: &mut S,
     out: &mut O,
 ) -> Status
-    // 0: what the command asks of the files holds, and the line that says so was put.
+    // 0: what the command asks of the files holds, its files were written, and the line that says so was put.
     ensures done { result ≡ Status.Done
-        → Tells (texts words.now) (S.held store.old) Status.Done (O.told out.old) (O.told out.new) }
+        → Tells (texts words.now) (S.held store.old) (S.held store.new) Status.Done (O.told out.old) (O.told out.new) }
     // 1: exactly by the words, which alone decide.
     ensures words { result ≡ Status.Words
-        → Tells (texts words.now) (S.held store.old) Status.Words (O.told out.old) (O.told out.new) }
+        → Tells (texts words.now) (S.held store.old) (S.held store.new) Status.Words (O.told out.old) (O.told out.new) }
     // 2: a file has a fault, and the line that names the first one was put.
     ensures refused { result ≡ Status.Refused
-        → Tells (texts words.now) (S.held store.old) Status.Refused (O.told out.old) (O.told out.new) }
-    // 3 and 7: by no command so far.
-    ensures no_budget { result ≢ Status.FlipBudget }
+        → Tells (texts words.now) (S.held store.old) (S.held store.new) Status.Refused (O.told out.old) (O.told out.new) }
+    // 3: the run of an input is longer than the budget, and the line that names the first one was put.
+    ensures budget { result ≡ Status.FlipBudget
+        → Tells (texts words.now) (S.held store.old) (S.held store.new) Status.FlipBudget (O.told out.old) (O.told out.new) }
+    // 7: by no command so far.
     ensures no_certificate { result ≢ Status.No }
-    // 4: free, and nothing was put.
+    // 4: free, and nothing was written or put.
     ensures memory { result ≡ Status.Memory → O.told out.new ≡ O.told out.old }
-    // 5: a read fault was counted, or a telling store doesn't hold a name; nothing was put.
+    ensures memory_kept { result ≡ Status.Memory → S.held store.new ≡ S.held store.old }
+    // 5: a read fault was counted, or a telling store doesn't hold a name; nothing was written or put.
     ensures read_fault { result ≡ Status.ReadFault
         → HasReadCause (texts words.now) (S.held store.old) (S.read_faults store.old) (S.read_faults store.new) }
     ensures read_fault_told { result ≡ Status.ReadFault → O.told out.new ≡ O.told out.old }
-    // 6: a fault of the sink was counted, and a first part of another status's line was put.
-    ensures write_fault { result ≡ Status.WriteFault → Rose (O.faults out.old) (O.faults out.new) }
+    ensures read_fault_kept { result ≡ Status.ReadFault → S.held store.new ≡ S.held store.old }
+    // 6: a fault of a write or of the sink was counted. Either the writing of another status's files broke off, and nothing was put; or they were written, and a first part of its line was put.
+    ensures write_fault { result ≡ Status.WriteFault
+        → Rose (S.write_faults store.old) (S.write_faults store.new) ⊎ Rose (O.faults out.old) (O.faults out.new) }
     ensures write_fault_told { result ≡ Status.WriteFault
-        → TellsPart (texts words.now) (S.held store.old) (O.told out.old) (O.told out.new) }
+        → TellsPart (texts words.now) (S.held store.old) (S.held store.new) (O.told out.old) (O.told out.new) }
 
     // Nothing else ends a run: where the store tells what it holds and no fault is counted, the status is the one that the words and the files call for, if there is memory.
-    ensures complete { Completes (texts words.now) (S.held store.old) (S.read_faults store.old) (S.read_faults store.new)
-        (O.faults out.old) (O.faults out.new) result }
+    ensures complete { Completes (texts words.now) (S.held store.old)
+        (IsFaultless (S.read_faults store.old) (S.read_faults store.new) (S.write_faults store.old) (S.write_faults store.new) (O.faults out.old) (O.faults out.new))
+        result }
     ensures words_decide { IsUnasked (texts words.now) → ¬ Rose (O.faults out.old) (O.faults out.new)
         → (result ≡ Status.Words) ⊎ (result ≡ Status.Memory) }
 
-    // The store's names stay, and it is called at most once for each file of the command, and not where the words are those of no command.
-    ensures kept { S.held store.new ≡ S.held store.old }
-    ensures writes { S.write_faults store.new ≡ S.write_faults store.old }
+    // The store keeps what it holds under all names but those that the command writes. It is called at most once for each file of the command, and not where the words are those of no command.
+    ensures kept { KeepsOthers (texts words.now) (S.held store.old) (S.held store.new) }
+    ensures read_only { IsReadOnly (texts words.now) → S.write_faults store.new ≡ S.write_faults store.old }
     ensures calls { CallsOnce (texts words.now) (S.calls store.old) (S.calls store.new) }
     ensures uncalled { IsUnasked (texts words.now) → S.calls store.new ≡ S.calls store.old }
 {
@@ -79,6 +107,7 @@ pub fn run_plain<S: Store, O: Sink>(
         Ok(reply) => reply,
         Err(Quiet::Memory) => return Status::Memory,
         Err(Quiet::ReadFault) => return Status::ReadFault,
+        Err(Quiet::WriteFault) => return Status::WriteFault,
     };
     match put_all(out, reply.line.as_bytes()) {
         Ok(()) => {}
@@ -87,5 +116,7 @@ pub fn run_plain<S: Store, O: Sink>(
     reply.status
 }
 
+#[cfg(test)]
+mod solve_tests;
 #[cfg(test)]
 mod tests;

@@ -4,7 +4,7 @@ ghost use Rattle.host_io.specs.Store.{Rose};
 ghost use Rattle.tri_check.specs.Problems.{IsProblem};
 ghost use Rattle.flipcentre.specs.Lines.{score_fault_line};
 ghost use Rattle.flipcentre.specs.Words.{Score};
-ghost use Rattle.flipcentre.specs.Runs.{SolutionSays, RawSays, ScoreSays, CommandSays, LacksFile};
+ghost use Rattle.flipcentre.specs.Runs.{SolutionSays, RawSays, ScoreSays, CommandDoes, LacksFile};
 
 use crate::lines::{bad_text, form_text};
 use crate::reply::{Quiet, Reply, read_file, with_line};
@@ -37,7 +37,8 @@ fn score_fault_text(alloc: Global, fault: ScoreFault) -> Result<String, AllocErr
 fn solution_reply(alloc: Global, instance: &Instance, solution: &Solution) -> Result<Reply, Quiet>
     ensures says { IfOk result (λ r. SolutionSays instance.now solution.now r.status (string_bytes r.line)) }
     ensures problem { IsProblem instance.now.points instance.now.inputs }
-    ensures memory { IsErrOf result Quiet.ReadFault → ⊥ }
+    ensures read { IsErrOf result Quiet.ReadFault → ⊥ }
+    ensures write { IsErrOf result Quiet.WriteFault → ⊥ }
 {
     let _ = instance.count();
     if !solution.uid.same(instance.uid()) {
@@ -52,7 +53,8 @@ fn solution_reply(alloc: Global, instance: &Instance, solution: &Solution) -> Re
 // What `score` says of values that have the form of an instance and of a solution.
 fn score_raw(alloc: Global, raw: RawInstance, solution: &Solution) -> Result<Reply, Quiet>
     ensures says { IfOk result (λ r. RawSays raw solution.now r.status (string_bytes r.line)) }
-    ensures memory { IsErrOf result Quiet.ReadFault → ⊥ }
+    ensures read { IsErrOf result Quiet.ReadFault → ⊥ }
+    ensures write { IsErrOf result Quiet.WriteFault → ⊥ }
 {
     match Instance::check(alloc, raw) {
         Ok(instance) => solution_reply(alloc, &instance, solution),
@@ -64,7 +66,8 @@ fn score_raw(alloc: Global, raw: RawInstance, solution: &Solution) -> Result<Rep
 // What `score` says of the bytes of two files.
 fn score_bytes(alloc: Global, bytes: &[u8], others: &[u8]) -> Result<Reply, Quiet>
     ensures says { IfOk result (λ r. ScoreSays bytes.now others.now r.status (string_bytes r.line)) }
-    ensures memory { IsErrOf result Quiet.ReadFault → ⊥ }
+    ensures read { IsErrOf result Quiet.ReadFault → ⊥ }
+    ensures write { IsErrOf result Quiet.WriteFault → ⊥ }
 {
     let raw = match read_instance(alloc, bytes) {
         Ok(raw) => raw,
@@ -88,9 +91,10 @@ pub(crate) fn score_files<S: Store>(
     instance: &str,
     solution: &str,
 ) -> Result<Reply, Quiet>
-    ensures says { IfOk result (λ r. CommandSays (S.held store.old) (Score instance.now solution.now) r.status (string_bytes r.line)) }
+    ensures does { IfOk result (λ r. CommandDoes (S.held store.old) (S.held store.new) (Score instance.now solution.now) r.status (string_bytes r.line)) }
     ensures cause { IsErrOf result Quiet.ReadFault → Rose (S.read_faults store.old) (S.read_faults store.new)
         ⊎ LacksFile (S.held store.old) (Score instance.now solution.now) }
+    ensures write { IsErrOf result Quiet.WriteFault → ⊥ }
     ensures kept { S.held store.new ≡ S.held store.old }
     ensures writes { S.write_faults store.new ≡ S.write_faults store.old }
     ensures calls { S.calls store.new ≤ S.calls store.old + 2 }

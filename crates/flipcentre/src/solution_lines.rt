@@ -1,6 +1,6 @@
 // The lines of totals and of refused solutions.
 ghost use Rattle.std.specs.Prelude.{◌≡◌, [], ◌∷◌, codes, decimal, IfOk, string_bytes};
-ghost use Rattle.flipcentre.specs.Lines.{line, edge_text, solution_refused, total_line, solution_form_line, other_uid_line, round_line, input_count_line, no_common_centre_line};
+ghost use Rattle.flipcentre.specs.Lines.{line, edge_text, solution_refused, total_line, solved_line, budget_line, solution_form_line, other_uid_line, round_line, input_count_line, no_common_centre_line};
 
 use edge_table::Edge;
 use replay::RoundFault;
@@ -11,6 +11,20 @@ pub fn total_text(alloc: Global, total: u128) -> Result<String, AllocError>
     ensures { IfOk result (λ s. string_bytes s ≡ total_line total) }
 {
     format!(in alloc; "total {total}\n")
+}
+
+/// The rounds of a solution, and a number that no solution has fewer rounds than.
+pub fn solved_text(alloc: Global, total: u128, bound: u128) -> Result<String, AllocError>
+    ensures { IfOk result (λ s. string_bytes s ≡ solved_line total bound) }
+{
+    format!(in alloc; "total {total} bound {bound}\n")
+}
+
+/// The first input whose run is longer than the budget.
+pub fn budget_text(alloc: Global, t: u32) -> Result<String, AllocError>
+    ensures { IfOk result (λ s. string_bytes s ≡ budget_line t) }
+{
+    format!(in alloc; "flip budget {t}\n")
 }
 
 // A fault with a word.

@@ -11,7 +11,7 @@ mod scoring;
 
 pub use fault::{ReplayFault, RoundFault, ScoreFault};
 pub use schedule::replay;
-pub use scoring::{Scored, score};
+pub use scoring::{Scored, score, total};
 
 /// The laws of first faults. So a replay and a score succeed exactly where they can, and a fault is the only one that there is to name.
 pub fn laws()

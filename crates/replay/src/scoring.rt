@@ -23,8 +23,8 @@ fn cost(rounds: &Rounds) -> u64
     rounds.len() as u64
 }
 
-// The number of rounds of all lists together.
-fn total(lists: &RoundsList) -> u128
+/// The number of rounds of all lists together, empty ones among them.
+pub fn total(lists: &RoundsList) -> u128
     ensures { result ≡ total lists.now }
 {
     let mut sum: u128 = 0;

@@ -2,7 +2,7 @@
 ghost use Rattle.std.specs.Prelude.{◌≡◌, ◌<◌, ◌≤◌, [], MatchBool, IfOk, OnOk, OnErr};
 ghost use Rattle.edge_table.specs.declared.edge.Edge.{Edge};
 ghost use Rattle.tri_theory.specs.Flips.{FlipsTo, Flips};
-ghost use Rattle.flip_list_law.specs.FlipLists.{round_count, grouped, last_images, follow};
+ghost use Rattle.flip_list_law.specs.FlipLists.{IsFlipList, round_count, grouped, last_images, follow};
 ghost use Rattle.flip_list_law.specs.Laws.{Replays, AreLastImages};
 ghost use Rattle.round_pack.specs.Tracks.{FlipTrack, flip};
 ghost use Rattle.round_pack.specs.Follows.{IsAppended, IsCancelled, IsNotCancelled};
@@ -165,8 +165,9 @@ impl Track {
         }
     }
 
-    /// The rounds: the edges of the flips by round number, each round in edge order. They are a schedule from the start to the end.
+    /// The rounds: the edges of the flips by round number, each round in edge order. They are a schedule from the start to the end, since each flip flips where the earlier ones led.
     pub fn grouped(&self) -> Result<Rounds, AllocError>
+        ensures leads { IsFlipList self.now.points self.now.start self.now.flips self.now.end }
         ensures rounds { IfOk result (λ r. r ≡ grouped self.now.flips) }
         ensures schedule { Replays self.now.points self.now.start self.now.flips self.now.end }
     {

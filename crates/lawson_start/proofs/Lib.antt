@@ -1,0 +1,6 @@
+mod Corners
+mod Openings
+mod Queues
+mod Runs
+mod Sets
+mod Touched
