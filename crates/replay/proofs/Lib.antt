@@ -1,4 +1,6 @@
 pub mod Centres
+pub mod Firsts
+pub mod Flipping
 pub mod Lists
 pub mod Quads
 pub mod ScoreLaws

@@ -1,17 +1,17 @@
 -- The edges that share a triangle with an edge that flips are the sides of its quadrilateral.
-use Rattle.std.proofs.Common.{◌≡◌, ◌≢◌, inl, inr, ◌∙◌, ℕ, List, Contains, refl, sym, subst, subst₂}
+use Rattle.std.proofs.Common.{◌≡◌, ◌≢◌, inl, inr, ◌∙◌, ℕ, List, Contains, sym, subst, subst₂}
 use Rattle.geo_orient.specs.declared.Point.{Point}
 use Rattle.edge_table.specs.declared.edge.Edge.{Edge}
 use Rattle.edge_table.specs.Edges.{edge}
-use Rattle.edge_table.proofs.Edges.{edge_swap}
+use Rattle.edge_table.proofs.Edges.{edge_swap, edge_of}
 use Rattle.tri_theory.specs.Points.{ArePlaced}
 use Rattle.tri_theory.specs.Triangulations.{IsEmptyTriangle, IsTriangulation}
-use Rattle.tri_theory.specs.Flips.{Flips}
 use Rattle.tri_theory.proofs.Flip.{Same}
 use Rattle.tri_theory.proofs.Edges.{edge_same}
-use Rattle.replay.specs.declared.quad.Quad.{Quad}
+use Rattle.flip_mesh.specs.declared.mesh.Quad.{Quad}
+use Rattle.flip_mesh.specs.Answers.{IsQuadAt}
 use Rattle.replay.specs.Independent.{IsSide, ShareTriangle}
-use Rattle.replay.specs.Steps.{IsQuadAt, IsOuterSide}
+use Rattle.replay.specs.Steps.{IsOuterSide}
 use Rattle.replay.specs.Faults.{IsFirstWith}
 use Rattle.replay.proofs.Lists.{taken_inside}
 use Rattle.replay.proofs.Quads.{turn_triangle, same_apex}
@@ -25,24 +25,28 @@ module _ (points : List Point) (P : ArePlaced points) (T : List Edge) (I : IsTri
   turn_side a b c f (inr (inl e)) = inl e
   turn_side a b c f (inr (inr e)) = inr (inl e)
 
+  -- the diagonal is the edge of its corners
+  diagonal : (e : Edge) (q : Quad) → IsQuadAt points T e q → e ≡ edge q.a q.c
+  diagonal e q h = h.ends ∙ sym (edge_of (q.a, q.c) h.low_first)
+
   -- an outer side shares a triangle with the diagonal
   pub side_shares : (e f : Edge) (q : Quad) → IsQuadAt points T e q → IsOuterSide q f → ShareTriangle points T e f
-  side_shares e f q h (inl i) = (q.a, q.b, q.c, h.corners.right, inr (inr (h.ends ∙ edge_swap q.a q.c)), inl i)
-  side_shares e f q h (inr (inl i)) = (q.a, q.b, q.c, h.corners.right, inr (inr (h.ends ∙ edge_swap q.a q.c)), inr (inl i))
-  side_shares e f q h (inr (inr (inl i))) = (q.a, q.c, q.d, h.corners.left, inl h.ends, inr (inl i))
-  side_shares e f q h (inr (inr (inr i))) = (q.a, q.c, q.d, h.corners.left, inl h.ends, inr (inr i))
+  side_shares e f q h (inl i) = (q.a, q.b, q.c, h.corners.right, inr (inr (diagonal e q h ∙ edge_swap q.a q.c)), inl i)
+  side_shares e f q h (inr (inl i)) = (q.a, q.b, q.c, h.corners.right, inr (inr (diagonal e q h ∙ edge_swap q.a q.c)), inr (inl i))
+  side_shares e f q h (inr (inr (inl i))) = (q.a, q.c, q.d, h.corners.left, inl (diagonal e q h), inr (inl i))
+  side_shares e f q h (inr (inr (inr i))) = (q.a, q.c, q.d, h.corners.left, inl (diagonal e q h), inr (inr i))
 
   -- the other edges of the two triangles at the diagonal are outer sides
   at_diagonal : (e f : Edge) (q : Quad) → IsQuadAt points T e q → f ≢ e → (x y z : ℕ) → IsEmptyTriangle points T x y z → e ≡ edge x y → IsSide x y z f → IsOuterSide q f
-  at_diagonal e f q h ne x y z t i s = by_same (edge_same q.a q.c x y (sym i ∙ h.ends))
+  at_diagonal e f q h ne x y z t i s = by_same (edge_same q.a q.c x y (sym i ∙ diagonal e q h))
     where
       left_side : z ≡ q.d → IsSide q.a q.c z f → IsOuterSide q f
-      left_side k (inl j) = absurd (ne (j ∙ sym h.ends))
+      left_side k (inl j) = absurd (ne (j ∙ sym (diagonal e q h)))
       left_side k (inr (inl j)) = inr (inr (inl (subst (λ w. f ≡ edge q.c w) k j)))
       left_side k (inr (inr j)) = inr (inr (inr (subst (λ w. f ≡ edge w q.a) k j)))
 
       right_side : z ≡ q.b → IsSide q.c q.a z f → IsOuterSide q f
-      right_side k (inl j) = absurd (ne (j ∙ edge_swap q.c q.a ∙ sym h.ends))
+      right_side k (inl j) = absurd (ne (j ∙ edge_swap q.c q.a ∙ sym (diagonal e q h)))
       right_side k (inr (inl j)) = inl (subst (λ w. f ≡ edge q.a w) k j)
       right_side k (inr (inr j)) = inr (inl (subst (λ w. f ≡ edge w q.c) k j))
 
@@ -57,10 +61,6 @@ module _ (points : List Point) (P : ArePlaced points) (T : List Edge) (I : IsTri
   shares_side e f q h ne (x, y, z, t, inl i, s) = at_diagonal e f q h ne x y z t i s
   shares_side e f q h ne (x, y, z, t, inr (inl i), s) = at_diagonal e f q h ne y z x (turn x y z t) i (turn_side x y z f s)
   shares_side e f q h ne (x, y, z, t, inr (inr i), s) = at_diagonal e f q h ne z x y (turn y z x (turn x y z t)) i (turn_side y z x f (turn_side x y z f s))
-
-  -- a quadrilateral is there where an edge flips
-  pub quad_flips : (e : Edge) (q : Quad) → IsQuadAt points T e q → Flips points T e
-  quad_flips e q h = (edge q.b q.d, (q.a, q.b, q.c, q.d, h.ends, refl, h.corners))
 
   -- the first outer side among other edges is the first that shares a triangle
   pub first_sharer : (e f : Edge) (q : Quad) (es : List Edge) → IsQuadAt points T e q → ¬ Contains es e → IsFirstWith (IsOuterSide q) es f → IsFirstWith (ShareTriangle points T e) es f

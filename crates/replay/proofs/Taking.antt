@@ -1,25 +1,25 @@
 -- The edges of a round, taken one after the other.
 use Rattle.std.proofs.Common.{◌≡◌, ◌≢◌, ◌⊎◌, inl, inr, ◌∙◌, ℕ, zero, suc, ◌<◌, List, [], ◌∷◌, ◌++◌, length, get_or, take, Contains, refl, sym, ap, subst, arith}
 use Rattle.std.proofs.lemmas.List.Quantifiers.{all_pairs_push}
-use Rattle.std.proofs.lemmas.List.Elements.{All-push, Contains-push, Contains-push_cases, Contains-append_left, Contains-get_or}
+use Rattle.std.proofs.lemmas.List.Elements.{All-push, Contains-push_cases, Contains-get_or}
 use Rattle.std.proofs.lemmas.Option.{slice_get_read}
 use Rattle.geo_orient.specs.declared.Point.{Point}
 use Rattle.edge_table.specs.declared.edge.Edge.{Edge}
 use Rattle.edge_table.specs.Edges.{edge}
 use Rattle.tri_theory.specs.Points.{ArePlaced}
 use Rattle.tri_theory.specs.Triangulations.{AreJoined, IsEmptyTriangle, IsTriangulation}
-use Rattle.tri_theory.specs.Flips.{FlipsTo, Flips}
+use Rattle.tri_theory.specs.Flips.{Flips}
 use Rattle.tri_theory.specs.Rounds.{IsRound}
 use Rattle.tri_theory.proofs.Net.{Net}
 use Rattle.tri_theory.proofs.Flip.{Same}
 use Rattle.tri_theory.proofs.Edges.{edge_same}
-use Rattle.tri_theory.proofs.Lists.{plane, net_of, one_image_of}
+use Rattle.tri_theory.proofs.Lists.{plane, net_of}
 use Rattle.tri_theory.proofs.Schedules.{schedule_append}
 use Rattle.replay.specs.Independent.{HasNoRepeats, AreIndependent, AreRoundsOf}
 use Rattle.replay.specs.declared.fault.RoundFault.{RoundFault}
 use Rattle.replay.specs.Faults.{IsFaultAfter, IsFaultIn, edge_at_fault}
 use Rattle.replay.proofs.Lists.{no_member}
-use Rattle.replay.specs.Steps.{IsEdgeTaken, AreTaken, AreNext}
+use Rattle.replay.specs.Steps.{IsEdgeTaken, AreTaken}
 
 pub independent_none : (points : List Point) (T : List Edge) → AreIndependent points T []
 independent_none points T = record { flips = λ e h. absurd (no_member e h); distinct = λ i j d l m. absurd (omega arith); apart = λ a b c t h. absurd (no_member (edge a b) h) }
@@ -37,8 +37,8 @@ module _ (points : List Point) (P : ArePlaced points) (T : List Edge) (I : IsTri
       by_same (inr s) = N.apart t.ca s.1
 
   -- one edge more
-  pub independent_more : (es : List Edge) (e image : Edge) → AreIndependent points T es → IsEdgeTaken points T es e image → AreIndependent points T (es ++ e ∷ [])
-  independent_more es e image A k = record {
+  pub independent_more : (es : List Edge) (e : Edge) → AreIndependent points T es → IsEdgeTaken points T es e → AreIndependent points T (es ++ e ∷ [])
+  independent_more es e A k = record {
     flips = λ f h. flips_by f (Contains-push_cases es e f h);
     distinct = all_pairs_push ◌≢◌ es e A.distinct (λ j d l i. k.fresh (subst (Contains es) i (Contains-get_or es j d l)));
     apart = λ a b c t h g. apart_by a b c t (Contains-push_cases es e (edge a b) h) (Contains-push_cases es e (edge b c) g);
@@ -46,7 +46,7 @@ module _ (points : List Point) (P : ArePlaced points) (T : List Edge) (I : IsTri
     where
       flips_by : (f : Edge) → Contains es f ⊎ (e ≡ f) → Flips points T f
       flips_by f (inl h) = A.flips f h
-      flips_by f (inr i) = subst (Flips points T) i (image, k.flips)
+      flips_by f (inr i) = subst (Flips points T) i k.flips
 
       apart_by : (a b c : ℕ) → IsEmptyTriangle points T a b c → Contains es (edge a b) ⊎ (e ≡ edge a b) → Contains es (edge b c) ⊎ (e ≡ edge b c) → ⊥
       apart_by a b c t (inl h) (inl g) = A.apart a b c t h g
@@ -54,45 +54,14 @@ module _ (points : List Point) (P : ArePlaced points) (T : List Edge) (I : IsTri
       apart_by a b c t (inr i) (inl g) = k.apart (edge b c) g (a, b, c, t, inl i, inr (inl refl))
       apart_by a b c t (inr i) (inr j) = sides_differ a b c t (sym i ∙ j)
 
-  pub taken_none : AreTaken points T [] [] []
-  taken_none = record {
-    all_taken = refl;
-    independent = independent_none points T;
-    flipped = λ g. (λ h. absurd (no_member g h), λ (e, h, k). absurd (no_member e h));
-  }
+  pub taken_none : AreTaken points T [] []
+  taken_none = record { all_taken = refl; independent = independent_none points T }
 
-  pub taken_more : (es taken images : List Edge) (e image : Edge) → AreTaken points T es taken images → IsEdgeTaken points T taken e image → AreTaken points T (es ++ e ∷ []) (taken ++ e ∷ []) (images ++ image ∷ [])
-  taken_more es taken images e image K k = record {
+  pub taken_more : (es taken : List Edge) (e : Edge) → AreTaken points T es taken → IsEdgeTaken points T taken e → AreTaken points T (es ++ e ∷ []) (taken ++ e ∷ [])
+  taken_more es taken e K k = record {
     all_taken = ap (λ l. l ++ e ∷ []) K.all_taken;
-    independent = independent_more es e image K.independent (subst (λ l. IsEdgeTaken points T l e image) K.all_taken k);
-    flipped = λ g. (λ h. to g (Contains-push_cases images image g h), λ (d, h, f). from g d f (Contains-push_cases es e d h));
+    independent = independent_more es e K.independent (subst (λ l. IsEdgeTaken points T l e) K.all_taken k);
   }
-    where
-      to : (g : Edge) → Contains images g ⊎ (image ≡ g) → (d : Edge) × Contains (es ++ e ∷ []) d × FlipsTo points T d g
-      to g (inl h) = let s = (K.flipped g).0 h in (s.0, Contains-append_left es (e ∷ []) s.0 s.1, s.2)
-      to g (inr i) = (e, Contains-push es e, subst (FlipsTo points T e) i k.flips)
-
-      from : (g d : Edge) → FlipsTo points T d g → Contains es d ⊎ (e ≡ d) → Contains (images ++ image ∷ []) g
-      from g d f (inl h) = Contains-append_left images (image ∷ []) g ((K.flipped g).1 (d, h, f))
-      from g d f (inr i) =
-          subst (Contains (images ++ image ∷ [])) (one_image_of points P T I e image g k.flips (subst (λ x. FlipsTo points T x g) (sym i) f)) (Contains-push images image)
-
-  -- what is taken is a round
-  pub round_of_taken : (round taken images next : List Edge) → AreTaken points T round taken images → AreNext T taken images next → IsRound points T round next
-  round_of_taken round taken images next K X = record {
-    flips = K.independent.flips;
-    apart = K.independent.apart;
-    ascending = X.ascending;
-    members = λ g. (λ h. to g ((X.members g).0 h), λ h. (X.members g).1 (from g h));
-  }
-    where
-      to : (g : Edge) → (Contains T g × ¬ Contains taken g) ⊎ Contains images g → (Contains T g × ¬ Contains round g) ⊎ ((e : Edge) × Contains round e × FlipsTo points T e g)
-      to g (inl h) = inl (h.0, λ k. h.1 (subst (λ l. Contains l g) (sym K.all_taken) k))
-      to g (inr h) = inr ((K.flipped g).0 h)
-
-      from : (g : Edge) → (Contains T g × ¬ Contains round g) ⊎ ((e : Edge) × Contains round e × FlipsTo points T e g) → (Contains T g × ¬ Contains taken g) ⊎ Contains images g
-      from g (inl h) = inl (h.0, λ k. h.1 (subst (λ l. Contains l g) K.all_taken k))
-      from g (inr h) = inr ((K.flipped g).1 h)
 
 -- no round, and one round more
 pub rounds_none : (points : List Point) (start now : List Edge) → start ≡ now → AreRoundsOf points start [] now
@@ -105,8 +74,8 @@ rounds_more points start now next round rounds R up h = record {
 }
 
 -- an edge with a fault, after those that are taken
-pub fault_here : (points : List Point) (T round taken images : List Edge) (i : ℕ) (e : Edge) (fault : RoundFault) → i < length round → e ≡ get_or round i e → AreTaken points T (take i round) taken images → IsFaultAfter points T taken fault → edge_at_fault fault ≡ e → IsFaultIn points T round fault
-fault_here points T round taken images i e fault l m K h k = record {
+pub fault_here : (points : List Point) (T round taken : List Edge) (i : ℕ) (e : Edge) (fault : RoundFault) → i < length round → e ≡ get_or round i e → AreTaken points T (take i round) taken → IsFaultAfter points T taken fault → edge_at_fault fault ≡ e → IsFaultIn points T round fault
+fault_here points T round taken i e fault l m K h k = record {
   place = i;
   there = slice_get_read round (length round) i (edge_at_fault fault) refl l (k ∙ m ∙ same_default round i e (edge_at_fault fault) l);
   before = K.independent;

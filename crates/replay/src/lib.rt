@@ -4,10 +4,10 @@
 ghost use Rattle.replay.specs.Laws.{EndsAreUnique, SchedulesHaveNoFault, FirstFaultsAreUnique, PlansHaveNoFault, ScoreFaultsAreUnique};
 
 mod fault;
-mod quad;
 mod round;
 mod schedule;
 mod scoring;
+mod sides;
 
 pub use fault::{ReplayFault, RoundFault, ScoreFault};
 pub use schedule::replay;

@@ -75,7 +75,7 @@ fn first_apart(
     ensures err { IfErr result (IsScoreFault inst.now.points inst.now.inputs lists.now) }
 {
     let mut apart: Option<u32> = None;
-    for t in 0..inst.inputs() {
+    for t in 1..inst.inputs() {
         let end = end_of(alloc, inst, lists, t)?;
         apart = next_apart(apart, t, &end, centre);
     }
