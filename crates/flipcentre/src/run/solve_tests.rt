@@ -173,7 +173,7 @@ fn words_that_ask_for_nothing_are_refused(rt: HostRuntime) -> Result<(), Fail> {
         let mut out = line_sink(rt.alloc())?;
         let status = run_in(rt.alloc(), &mut store, &mut out, words)?;
         assert_eq!(rt; status, Status::Words);
-        assert!(rt; out.bytes() == b"words refused\n");
+        assert!(rt; out.bytes() == b"words refused\n".as_slice());
     }
     Ok(())
 }
