@@ -11,3 +11,6 @@ mod run;
 pub use centre::Start;
 pub use fault::StartFault;
 pub use opening::start;
+
+#[cfg(test)]
+mod tests;

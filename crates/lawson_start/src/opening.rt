@@ -29,7 +29,8 @@ fn tracks_of(alloc: Global, inst: &Instance, budget: u64) -> Result<TrackList, S
     ensures err { IfErr result (IsStartFault inst.now.points inst.now.inputs budget) }
 {
     let mut tracks = TrackList::make(alloc);
-    for t in 0..inst.inputs() {
+    let count = inst.inputs();
+    for t in 0..count {
         tracks.push(track_of(alloc, inst, t, budget)?)?;
     }
     Ok(tracks)
@@ -37,7 +38,7 @@ fn tracks_of(alloc: Global, inst: &Instance, budget: u64) -> Result<TrackList, S
 
 /// The triangulation in which no edge is bad, and from each input the run to it: the flips of the least bad edge in edge order, until none is bad. An edge is bad where it flips and its image lies under it, that is where the opposite corner is strictly inside the circle of one of its two triangles, or on it while the image has the least of the four numbers as an end.
 ///
-/// A run is followed for at most one flip more than the budget. With m edges an input takes O(m log m) steps, and each of its flips O(log m) more.
+/// A run is followed for as many flips as the budget allows, and no further. With m edges an input takes O(m log m) steps, and each of its flips O(log m) more, beside what the track takes to append it.
 pub fn start(alloc: Global, inst: &Instance, budget: u64) -> Result<Start, StartFault>
     ensures ok { IfOk result (IsStart inst.now.points inst.now.inputs budget) }
     ensures err { IfErr result (IsStartFault inst.now.points inst.now.inputs budget) }

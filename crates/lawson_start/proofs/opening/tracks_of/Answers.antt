@@ -12,6 +12,6 @@ returns-in_err-track_of-clause-err c =
 
 pub loop-t-preserved : goal.loop-t-preserved
 loop-t-preserved c =
-    let l : c.loop-t.t < length c.args.inst.now.inputs = (let h = c.loop-t-test.true in let e = c.inputs-t-end.ensures in omega arith) in
+    let l : c.loop-t.t < length c.args.inst.now.inputs = (let h = c.loop-t-test.true in let e = c.inputs-count.ensures in omega arith) in
     subst (λ ts. AllZip (IsRunOf c.args.inst.now.points c.args.budget) (take (c.loop-t.t + 1) c.args.inst.now.inputs) ts) (sym c.in_ok-push.ensures.ok)
     (one_more c.args.inst.now.points c.args.budget c.args.inst.now.inputs c.loop-t.tracks c.in_ok-track_of.field-0 c.loop-t.t l c.in_ok-track_of.ensures.ok c.loop-t.invariant)
