@@ -1,0 +1,8 @@
+pub mod Bounds
+pub mod Counted
+pub mod Fewness
+pub mod FirstGreatest
+pub mod Starts
+pub mod WalkCounts
+pub mod Walking
+pub mod Ways

@@ -1,0 +1,3 @@
+pub mod Best
+pub mod Bounds
+pub mod Walks
