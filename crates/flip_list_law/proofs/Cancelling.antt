@@ -259,6 +259,9 @@ module _ (points : List Point) (P : ArePlaced points) where
         cd : c ≢ d
         cd = N.apart q.over.bc
 
+        da : d ≢ a
+        da = N.apart q.over.ca
+
         ab : a ≢ b
         ab = N.apart q.right.ab
 

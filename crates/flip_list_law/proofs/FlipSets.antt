@@ -41,6 +41,9 @@ with_edge_cases e f [] h = by_cases (contains_cases f e [] h)
     by_cases (inr k) = inr k
 with_edge_cases e f (g ∷ es) h = by_test (is_before e g) h (λ k. with_edge_cases e f es k)
   where
+    Cases : List Edge → Type 0
+    Cases es = (f ≡ e) ⊎ Contains es f
+
     first : (e ≡ f) ⊎ Contains (g ∷ es) f → (f ≡ e) ⊎ Contains (g ∷ es) f
     first (inl i) = inl (sym i)
     first (inr k) = inr k

@@ -44,6 +44,12 @@ stays_longer points (suc since) zero e from rounds to h l s = absurd (omega arit
 stays_longer points (suc since) (suc more) e from [] to h l s = s
 stays_longer points (suc since) (suc more) e from (round ∷ rounds) to h l s = stays_longer points since more e h.0 rounds to h.2 (omega arith) s
 
+pub stays_to_end : (points : List Point) (since : ℕ) (e : Edge) (from : List Edge) (rounds : List (List Edge)) (to : List Edge) (h : IsSchedule points from rounds to) → Stays points since e from rounds to h → Contains to e
+stays_to_end points zero e from [] to h s = subst (λ T. Contains T e) h s
+stays_to_end points (suc since) e from [] to h s = subst (λ T. Contains T e) h s
+stays_to_end points zero e from (round ∷ rounds) to h s = stays_to_end points zero e h.0 rounds to h.2 s.1
+stays_to_end points (suc since) e from (round ∷ rounds) to h s = stays_to_end points since e h.0 rounds to h.2 s
+
 -- the edge stands in the round with k others before it, and flips there to the image
 abbrev pub RoundImage : (points : List Point) → ℕ → Edge → Edge → (from : List Edge) → (rounds : List (List Edge)) → (to : List Edge) → IsSchedule points from rounds to → Type 0
 RoundImage points k e f from [] to h = ⊥

@@ -1,11 +1,13 @@
 -- Triangles by their corners, and the triangles that a flip has at its edge and makes at its image.
-use Rattle.std.proofs.Common.{◌≡◌, ◌⊎◌, inl, inr, ◌↔◌, ℕ, ◌≤◌, min, max, Bool, true, false, ◌&&◌, ◌||◌, ◌==◌, refl, sym, ap, ◌∙◌, subst, arith, eqb-true, eq-eqb}
+use Rattle.std.proofs.Common.{◌≡◌, ◌⊎◌, inl, inr, ◌↔◌, ℕ, ◌≤◌, min, max, Bool, true, false, ◌&&◌, ◌||◌, ◌==◌, refl, sym, ap, ap₂, ◌∙◌, subst, arith, eqb-true, eq-eqb}
 use native.Mathlib.Decide.{dec_le}
 use Rattle.edge_table.specs.declared.edge.Edge.{Edge}
 use Rattle.edge_table.specs.Edges.{edge}
 use Rattle.flip_list_law.specs.declared.Flip.{Flip}
 use Rattle.flip_list_law.specs.FlipLists.{Triangle, triangle, one_side, other_side, is_same, makes}
+use Rattle.tri_theory.proofs.Flip.{Same}
 use Rattle.edge_table.proofs.Edges.{pair, edge_is}
+use Rattle.tri_theory.proofs.Edges.{edge_same}
 
 triple : {a b c x y z : ℕ} → a ≡ x → b ≡ y → c ≡ z → let s : Triangle = (a, b, c) in let t : Triangle = (x, y, z) in s ≡ t
 triple {a} {b} {c} {x} {y} {z} e f g = λ i. (e i, f i, g i)
@@ -108,6 +110,14 @@ side_of x y z a b c e = by_place (third_in x y z a b c e)
     by_place (inl f) = inr (inl (same_rest x y b c a (ap (triangle x y) (sym f) ∙ e ∙ triangle_turn a b c)))
     by_place (inr (inl f)) = inr (inr (same_rest x y c a b (ap (triangle x y) (sym f) ∙ e ∙ triangle_turn a b c ∙ triangle_turn b c a)))
     by_place (inr (inr f)) = inl (same_rest x y a b c (ap (triangle x y) (sym f) ∙ e))
+
+-- where the first two corners are the same edge and the third is the same, the triangles are equal
+pub triangle_of_edge : (a b x y c : ℕ) → edge x y ≡ edge a b → triangle x y c ≡ triangle a b c
+triangle_of_edge a b x y c e = by_same (edge_same a b x y e)
+  where
+    by_same : Same a b x y → triangle x y c ≡ triangle a b c
+    by_same (inl s) = ap₂ (λ u v. triangle u v c) s.0 s.1
+    by_same (inr s) = ap₂ (λ u v. triangle u v c) s.0 s.1 ∙ triangle_swap b a c
 
 -- ---- tests
 pub and_both : (a b : Bool) → a && b ≡ true → (a ≡ true) × (b ≡ true)

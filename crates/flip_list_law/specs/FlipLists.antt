@@ -84,7 +84,6 @@ abbrev pub greatest : List ℕ → ℕ
 greatest [] = 0
 greatest (n ∷ ns) = max n (greatest ns)
 
--- how many rounds a list has: the greatest of the numbers of its flips, or 0
 abbrev pub round_count : List Flip → ℕ
 round_count flips = greatest (round_numbers flips)
 

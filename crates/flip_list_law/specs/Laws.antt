@@ -140,7 +140,7 @@ LastImagesLeadBack =
 
 -- ---- the flips of a schedule's rounds
 
--- where each round names an edge once, they are in order a flip list with the same end, and need no more rounds
+-- in order, they are a flip list with the same end, and need no more rounds. Each round names an edge once
 abbrev pub RoundsFlipInTurn : Type 0
 RoundsFlipInTurn =
     (points : List Point) (from to : List Edge) (rounds : List (List Edge)) → ArePlaced points → IsTriangulation points from → IsSchedule points from rounds to → All (λ round. AllPairs ◌≢◌ round) rounds
