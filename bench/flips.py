@@ -20,7 +20,8 @@ import subprocess
 import tempfile
 
 ROOT = os.path.dirname(os.path.dirname(os.path.abspath(__file__)))
-PROGRAM = os.path.join(ROOT, "flipcentre")
+SCRIPT = os.path.join(ROOT, "flipcentre")
+PROGRAM = os.path.join(ROOT, "crates", "flipcentre", "out", "flipcentre")
 
 
 def numbers(count):
@@ -118,8 +119,9 @@ def main():
     parser.add_argument("--flips", type=int, default=100000)
     parser.add_argument("--runs", type=int, default=3)
     words = parser.parse_args()
-    # The first call builds the program where that hasn't been done.
-    subprocess.run([PROGRAM], stdout=subprocess.DEVNULL, check=False)
+    # The script builds the program where that hasn't been done. Without words the program only refuses them, with status 1.
+    if subprocess.run([SCRIPT], stdout=subprocess.DEVNULL, check=False).returncode != 1:
+        raise SystemExit("the program wasn't built")
     print(f"load average {os.getloadavg()[0]:.1f} on {os.cpu_count()} processors")
     for count in words.points:
         measure(count, words.flips, words.runs)
