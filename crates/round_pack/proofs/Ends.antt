@@ -1,5 +1,5 @@
 -- Flips in the end of a track.
-use Rattle.std.proofs.Common.{◌≡◌, ◌≢◌, ◌∙◌, ℕ, suc, ◌<◌, Some, List, [], ◌∷◌, ◌++◌, length, remove, sym, ap, ap₂, subst}
+use Rattle.std.proofs.Common.{◌≡◌, ◌≢◌, ◌∙◌, ℕ, suc, ◌<◌, Some, List, [], ◌∷◌, ◌++◌, length, remove, sym, ap, ap₂, subst, subst₂}
 use Rattle.geo_orient.specs.declared.Point.{Point}
 use Rattle.edge_table.specs.declared.edge.Edge.{Edge}
 use Rattle.tri_theory.specs.Points.{ArePlaced}
@@ -71,3 +71,9 @@ undone_within flips x place u = maker_within flips (one_side x) place ((undone_b
 
 pub kept_ordered : (start end : Layout) (flips : List Flip) (numbers : List ℕ) → AreKept start end flips numbers → AreOrdered flips
 kept_ordered start end flips numbers k = list_ordered start.points start.edges end.edges flips k.leads
+
+-- an equal start, end and list
+pub kept_same : (start end s e : Layout) (flips fs : List Flip) (numbers ns : List ℕ) → AreKept start end flips numbers → s.points ≡ start.points → s.edges ≡ start.edges → e ≡ end → fs ≡ flips → ns ≡ numbers → AreKept s e fs ns
+kept_same start end s e flips fs numbers ns k p q r u v =
+    let same : s ≡ start = λ j. record { points = p j; edges = q j } in
+    subst₂ (λ a b. AreKept a b fs ns) (sym same) (sym r) (subst₂ (AreKept start end) (sym u) (sym v) k)

@@ -1,6 +1,9 @@
 mod Chains
+mod Counts
 mod Groups
 mod Makers
 mod Numbers
 mod Ends
 mod Seen
+mod Slots
+mod RoundCounts

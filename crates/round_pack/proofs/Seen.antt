@@ -18,14 +18,14 @@ seen start end flips room = record { points = start.points; start = start.edges;
 
 module _ (start end : Layout) (flips : List Flip) (numbers : List ℕ) (k : AreKept start end flips numbers) (e : Edge) where
   -- the flip that the code made is the flip of e
-  made_is : (x : Flip) (f : Edge) → x.edge ≡ e → FlipsTo end.points end.edges e x.image → FlipsTo end.points end.edges e f → x ≡ flip e f
+  pub made_is : (x : Flip) (f : Edge) → x.edge ≡ e → FlipsTo end.points end.edges e x.image → FlipsTo end.points end.edges e f → x ≡ flip e f
   made_is x f h X F = one_flip start end flips numbers x e f k h X F
 
   same_image : (f g : Edge) (next : Layout) → FlipsTo end.points end.edges e f → IsFlip end.points end.edges e g next.edges → IsFlip end.points end.edges e f next.edges
   same_image f g next F G =
       subst (λ y. IsFlip end.points end.edges e y next.edges) (images_are_unique end.points end.edges e g f (end_placed start end flips numbers k) (end_triangulation start end flips numbers k) G.flips F) G
 
-  seen_flips : (room : ℕ) (v : FlipTrack) → seen start end flips room ≡ v → (f : Edge) → FlipsTo v.points v.end e f → FlipsTo end.points end.edges e f
+  pub seen_flips : (room : ℕ) (v : FlipTrack) → seen start end flips room ≡ v → (f : Edge) → FlipsTo v.points v.end e f → FlipsTo end.points end.edges e f
   seen_flips room v is f F = subst (λ ps. FlipsTo ps end.edges e f) (sym k.points) (subst (λ (w : FlipTrack). FlipsTo w.points w.end e f) (sym is) F)
 
   pub is_appended : (g : Edge) (next : Layout) (items : List Flip) (room : ℕ) (v : FlipTrack) → seen start end flips room ≡ v → 0 < v.spare → IsFlip end.points end.edges e g next.edges → items ≡ flips ++ flip e g ∷ []

@@ -2,10 +2,12 @@
 #![tactic(auto)]
 
 mod chain;
+mod count;
 mod group;
 mod list;
 mod maker;
 mod number;
+mod slot;
 mod track;
 
 pub use list::TrackList;

@@ -1,10 +1,12 @@
 // Round numbers.
-ghost use Rattle.std.specs.Prelude.{◌≡◌, ◌<◌, suc, length, remove};
-ghost use Rattle.flip_list_law.specs.FlipLists.{rounds_before, round_numbers, last_numbers, greatest, same_place, undone_by};
-ghost use Rattle.round_pack.specs.Chains.{AreChained, AreOrdered};
+ghost use Rattle.std.specs.Prelude.{◌≡◌, suc};
+ghost use Rattle.flip_list_law.specs.FlipLists.{rounds_before, round_numbers, last_numbers, greatest, same_place};
+ghost use Rattle.round_pack.specs.Slots.{flips_in, numbers_in};
+ghost use Rattle.round_pack.specs.Chains.{AreChained, AreOrdered, undone_slot};
 
 use crate::chain::last_maker;
 use crate::maker::{Triangle, one_side, other_side};
+use crate::slot::{Entry, number_at};
 use flip_list_law::Flip;
 
 fn same_place(first: Option<usize>, second: Option<usize>) -> Option<usize>
@@ -19,20 +21,20 @@ fn same_place(first: Option<usize>, second: Option<usize>) -> Option<usize>
     }
 }
 
-// The place of the one flip that last made both triangles at the flip's edge.
+// The slot of the one flip that last made both triangles at the flip's edge.
 pub(crate) fn undone_by(
     heads: &[Option<usize>],
     before: &[Option<usize>],
-    flips: &[Flip],
+    slots: &[Option<Entry>],
     flip: &Flip,
 ) -> Option<usize>
-    requires chained { AreChained heads.now before.now flips.now }
-    requires ordered { AreOrdered flips.now }
-    ensures { result ≡ undone_by flips.now flip.now }
+    requires chained { AreChained heads.now before.now slots.now }
+    requires ordered { AreOrdered (flips_in slots.now) }
+    ensures { result ≡ undone_slot slots.now flip.now }
 {
     same_place(
-        last_maker(heads, before, flips, one_side(flip)),
-        last_maker(heads, before, flips, other_side(flip)),
+        last_maker(heads, before, slots, one_side(flip)),
+        last_maker(heads, before, slots, other_side(flip)),
     )
 }
 
@@ -40,17 +42,16 @@ pub(crate) fn undone_by(
 fn last_number(
     heads: &[Option<usize>],
     before: &[Option<usize>],
-    flips: &[Flip],
-    numbers: &[u64],
+    slots: &[Option<Entry>],
     t: Triangle,
 ) -> u64
-    requires chained { AreChained heads.now before.now flips.now }
-    requires ordered { AreOrdered flips.now }
-    requires numbered { numbers.now ≡ round_numbers flips.now }
-    ensures { result ≡ last_numbers flips.now t }
+    requires chained { AreChained heads.now before.now slots.now }
+    requires ordered { AreOrdered (flips_in slots.now) }
+    requires numbered { numbers_in slots.now ≡ round_numbers (flips_in slots.now) }
+    ensures { result ≡ last_numbers (flips_in slots.now) t }
 {
-    match last_maker(heads, before, flips, t) {
-        Some(place) => numbers[place],
+    match last_maker(heads, before, slots, t) {
+        Some(place) => number_at(slots, place),
         None => 0,
     }
 }
@@ -59,17 +60,16 @@ fn last_number(
 pub(crate) fn next_number(
     heads: &[Option<usize>],
     before: &[Option<usize>],
-    flips: &[Flip],
-    numbers: &[u64],
+    slots: &[Option<Entry>],
     flip: &Flip,
 ) -> u64
-    requires chained { AreChained heads.now before.now flips.now }
-    requires ordered { AreOrdered flips.now }
-    requires numbered { numbers.now ≡ round_numbers flips.now }
-    ensures { result ≡ suc (rounds_before (last_numbers flips.now) flip.now) }
+    requires chained { AreChained heads.now before.now slots.now }
+    requires ordered { AreOrdered (flips_in slots.now) }
+    requires numbered { numbers_in slots.now ≡ round_numbers (flips_in slots.now) }
+    ensures { result ≡ suc (rounds_before (last_numbers (flips_in slots.now)) flip.now) }
 {
-    let first = last_number(heads, before, flips, numbers, one_side(flip));
-    let second = last_number(heads, before, flips, numbers, other_side(flip));
+    let first = last_number(heads, before, slots, one_side(flip));
+    let second = last_number(heads, before, slots, other_side(flip));
     if first < second {
         second + 1
     } else {
@@ -88,14 +88,4 @@ pub(crate) fn greatest(numbers: &[u64]) -> u64
         }
     }
     most
-}
-
-// The greatest of the other numbers, or 0.
-pub(crate) fn greatest_without(numbers: &[u64], place: usize) -> u64
-    requires { place < length numbers.now }
-    ensures { result ≡ greatest (remove numbers.now place) }
-{
-    let before = greatest(&numbers[..place]);
-    let after = greatest(&numbers[place + 1..]);
-    if before < after { after } else { before }
 }

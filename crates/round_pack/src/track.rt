@@ -1,5 +1,5 @@
 // A flip list that can be followed further.
-ghost use Rattle.std.specs.Prelude.{◌≡◌, ◌<◌, ◌≤◌, [], MatchBool, IfOk, OnOk, OnErr};
+ghost use Rattle.std.specs.Prelude.{◌≡◌, ◌<◌, ◌≤◌, ◌+◌, [], vec_len, vec_capacity, MatchBool, IfOk, OnOk, OnErr};
 ghost use Rattle.edge_table.specs.declared.edge.Edge.{Edge};
 ghost use Rattle.tri_theory.specs.Flips.{FlipsTo, Flips};
 ghost use Rattle.flip_list_law.specs.FlipLists.{IsFlipList, round_count, grouped, last_images, follow};
@@ -7,9 +7,11 @@ ghost use Rattle.flip_list_law.specs.Laws.{Replays, AreLastImages};
 ghost use Rattle.round_pack.specs.Tracks.{FlipTrack, flip};
 ghost use Rattle.round_pack.specs.Follows.{IsAppended, IsCancelled, IsNotCancelled};
 
-use crate::chain::{link, no_heads, unlink};
+use crate::chain::{compacted, link, no_heads, take_out};
+use crate::count::{count_in, count_out, rounds_without};
 use crate::group::{image_set, round_sets, rounds_of, seq_of};
-use crate::number::{greatest, greatest_without, next_number, undone_by};
+use crate::number::{next_number, undone_by};
+use crate::slot::{Entry, flips_in, number_at, numbers_in};
 use edge_table::{Edge, EdgeSeq, Rounds};
 use flip_list_law::Flip;
 use flip_mesh::Mesh;
@@ -19,19 +21,22 @@ use tri_check::Triang;
 
 /// A flip list, seen as the points, the edges where it starts, its flips, the edges where it ends, and how many more flips it can take without memory.
 ///
-/// The flips are chained by buckets of their images, of which there is one more than edges. So the flip that last made a triangle is found by looking at three chains, in the time of their lengths.
+/// Each flip stays in the slot that it came into, and one that is taken out leaves an empty slot, so nothing moves. The flips are chained by buckets of their images, of which there is one more than edges. So the flip that last made a triangle is found by looking at three chains, in the time of their lengths: constant on average, unless the images crowd into few buckets. Beside that `append`, `cancel` and `rounds_after` take the time of one flip of a mesh.
 #[derive(Drop)]
 pub struct Track {
     start: Triang,
     mesh: Mesh,
-    flips: Vec<Flip>,
-    // The round number of each flip.
-    numbers: Vec<u64>,
-    // For each bucket of images the place of its last flip.
+    // The flips with their round numbers. One that is taken out leaves an empty slot.
+    slots: Vec<Option<Entry>>,
+    // For each bucket of images the slot of its last flip.
     heads: Vec<Option<usize>>,
-    // For each flip the place of the one before it in its bucket.
+    // For each flip the slot of the one before it in its bucket.
     before: Vec<Option<usize>>,
-    // How many more the vectors of the flips have room for, at least.
+    // How many flips each round has.
+    counts: Vec<usize>,
+    // How many slots were emptied since the last were dropped.
+    emptied: usize,
+    // How many more the vectors have room for, at least.
     room: usize,
 }
 
@@ -43,10 +48,23 @@ impl Model for Track {
     ghost use Rattle.std.specs.Prelude.{◌≡◌, ◌+◌, ◌≤◌, vec_len, vec_capacity};
     ghost use Rattle.round_pack.specs.States.{AreKept};
     ghost use Rattle.round_pack.specs.Chains.{AreChained};
+    ghost use Rattle.round_pack.specs.Counts.{AreCounted};
+    ghost use Rattle.round_pack.specs.Slots.{flips_in, numbers_in};
 
-    ghost view = { λ t. record { points = t.start.points; start = t.start.edges; flips = t.flips.items; end = t.mesh.edges; spare = t.room } };
+    ghost view = { λ t. record { points = t.start.points; start = t.start.edges; flips = flips_in t.slots.items; end = t.mesh.edges; spare = t.room } };
 
-    ghost invariant = { λ t. AreKept t.start t.mesh t.flips.items t.numbers.items × (vec_len t.numbers ≡ vec_len t.flips) × (vec_len t.flips + t.room ≤ vec_capacity t.flips) × (vec_len t.numbers + t.room ≤ vec_capacity t.numbers) × AreChained t.heads.items t.before.items t.flips.items × (vec_len t.before ≡ vec_len t.flips) × (vec_len t.before + t.room ≤ vec_capacity t.before) };
+    ghost invariant = { λ t. AreKept t.start t.mesh (flips_in t.slots.items) (numbers_in t.slots.items) × AreChained t.heads.items t.before.items t.slots.items × AreCounted t.counts.items (numbers_in t.slots.items) × (vec_len t.before ≡ vec_len t.slots) × (vec_len t.slots + t.room ≤ vec_capacity t.slots) × (vec_len t.before + t.room ≤ vec_capacity t.before) × (vec_len t.counts + t.room ≤ vec_capacity t.counts) };
+}
+
+// The same items, with room for so many more.
+fn with_room<T: Copy>(alloc: Global, items: &[T], room: usize) -> Result<Vec<T>, AllocError>
+    ensures items { IfOk result (λ v. v.items ≡ items.now) }
+    ensures room { IfOk result (λ v. vec_len v + room ≤ vec_capacity v) }
+{
+    let mut copy = Vec::new(alloc);
+    copy.extend_from_slice(items)?;
+    copy.reserve(room)?;
+    Ok(copy)
 }
 
 impl Track {
@@ -60,15 +78,16 @@ impl Track {
         Ok(Track {
             start,
             mesh,
-            flips: Vec::new(alloc),
-            numbers: Vec::new(alloc),
+            slots: Vec::new(alloc),
             heads,
             before: Vec::new(alloc),
+            counts: Vec::new(alloc),
+            emptied: 0,
             room: 0,
         })
     }
 
-    /// Makes room for at least `k` more flips, and changes nothing else.
+    /// Makes room for at least `k` more flips, and changes nothing else. It takes linear time where it grows, or drops the empty slots once they are more than half of all.
     pub fn reserve(&mut self, k: usize) -> Result<(), AllocError>
         ensures points { self.new.points ≡ self.old.points }
         ensures start { self.new.start ≡ self.old.start }
@@ -78,11 +97,27 @@ impl Track {
         ensures room { OnOk result (k ≤ self.new.spare) }
     {
         if k > self.room {
-            self.flips.reserve(k)?;
-            self.numbers.reserve(k)?;
+            if self.emptied > self.slots.len() / 2 {
+                self.drop_empty_slots()?;
+            }
+            self.slots.reserve(k)?;
             self.before.reserve(k)?;
+            self.counts.reserve(k)?;
             self.room = k;
         }
+        Ok(())
+    }
+
+    // Drops the empty slots, and changes nothing that is seen.
+    fn drop_empty_slots(&mut self) -> Result<(), AllocError>
+        ensures { self.new ≡ self.old }
+    {
+        let alloc = *self.slots.allocator();
+        let (slots, heads, before) = compacted(alloc, &self.slots, self.heads.len(), self.room)?;
+        self.slots = slots;
+        self.heads = heads;
+        self.before = before;
+        self.emptied = 0;
         Ok(())
     }
 
@@ -109,10 +144,11 @@ impl Track {
     {
         let image = self.mesh.flip(e);
         let flip = Flip { edge: e, image };
-        let number = next_number(&self.heads, &self.before, &self.flips, &self.numbers, &flip);
-        link(&mut self.heads, &mut self.before, &flip);
-        self.flips.push_reserved(flip);
-        self.numbers.push_reserved(number);
+        let number = next_number(&self.heads, &self.before, &self.slots, &flip);
+        let entry = Entry { flip, number };
+        count_in(&mut self.counts, &self.slots, number);
+        link(&mut self.heads, &mut self.before, &entry);
+        self.slots.push_reserved(Some(entry));
         self.room -= 1;
         image
     }
@@ -123,24 +159,25 @@ impl Track {
         ensures { (f : Edge) → FlipsTo self.old.points self.old.end e f → MatchBool result (IsCancelled self.old self.new e f) (IsNotCancelled self.old self.new e f) }
     {
         let flip = self.flip_at(e);
-        match undone_by(&self.heads, &self.before, &self.flips, &flip) {
+        match undone_by(&self.heads, &self.before, &self.slots, &flip) {
             None => false,
             Some(place) => {
                 self.mesh.flip(e);
-                unlink(&mut self.heads, &mut self.before, place);
-                self.flips.remove(place);
-                self.numbers.remove(place);
+                let number = number_at(&self.slots, place);
+                count_out(&mut self.counts, number);
+                take_out(&mut self.heads, &mut self.before, &mut self.slots, place);
+                self.emptied = self.emptied.saturating_add(1);
                 true
             }
         }
     }
 
-    /// The greatest round number, or 0.
+    /// The greatest round number, or 0, in constant time.
     pub fn rounds(&self) -> u64
         ensures { result ≡ round_count self.now.flips }
     {
         let _ = &self.mesh;
-        greatest(&self.numbers)
+        self.counts.len() as u64
     }
 
     /// What `rounds` would answer once an edge that flips was followed.
@@ -149,17 +186,11 @@ impl Track {
         ensures { (f : Edge) → FlipsTo self.now.points self.now.end e f → result ≡ round_count (follow self.now.flips (flip e f)) }
     {
         let flip = self.flip_at(e);
-        match undone_by(&self.heads, &self.before, &self.flips, &flip) {
-            Some(place) => greatest_without(&self.numbers, place),
+        match undone_by(&self.heads, &self.before, &self.slots, &flip) {
+            Some(place) => rounds_without(&self.counts, number_at(&self.slots, place)),
             None => {
-                let most = greatest(&self.numbers);
-                let next = next_number(
-                    &self.heads,
-                    &self.before,
-                    &self.flips,
-                    &self.numbers,
-                    &flip,
-                );
+                let most = self.counts.len() as u64;
+                let next = next_number(&self.heads, &self.before, &self.slots, &flip);
                 if most < next { next } else { most }
             }
         }
@@ -172,8 +203,10 @@ impl Track {
         ensures schedule { Replays self.now.points self.now.start self.now.flips self.now.end }
     {
         let _ = &self.mesh;
-        let alloc = *self.flips.allocator();
-        let sets = round_sets(alloc, &self.flips, &self.numbers)?;
+        let alloc = *self.slots.allocator();
+        let flips = flips_in(alloc, &self.slots)?;
+        let numbers = numbers_in(alloc, &self.slots)?;
+        let sets = round_sets(alloc, &flips, &numbers)?;
         rounds_of(alloc, &sets)
     }
 
@@ -183,8 +216,10 @@ impl Track {
         ensures members { AreLastImages self.now.flips self.now.end }
     {
         let _ = &self.mesh;
-        let alloc = *self.flips.allocator();
-        let set = image_set(alloc, &self.flips, &self.numbers, greatest(&self.numbers))?;
+        let alloc = *self.slots.allocator();
+        let flips = flips_in(alloc, &self.slots)?;
+        let numbers = numbers_in(alloc, &self.slots)?;
+        let set = image_set(alloc, &flips, &numbers, self.counts.len() as u64)?;
         seq_of(alloc, &set)
     }
 
@@ -193,7 +228,7 @@ impl Track {
         ensures points { IfOk result (λ t. t.points ≡ self.now.points) }
         ensures edges { IfOk result (λ t. t.edges ≡ self.now.end) }
     {
-        let _ = &self.flips;
+        let _ = &self.slots;
         self.mesh.to_triang()
     }
 
@@ -201,23 +236,21 @@ impl Track {
     pub fn copy(&self) -> Result<Track, AllocError>
         ensures { IfOk result (λ t. t ≡ self.now) }
     {
-        let alloc = *self.flips.allocator();
+        let alloc = *self.slots.allocator();
         let start = self.start.copy()?;
         let mesh = self.mesh.copy()?;
-        let mut flips = self.flips.to_vec(alloc)?;
-        flips.reserve(self.room)?;
-        let mut numbers = self.numbers.to_vec(alloc)?;
-        numbers.reserve(self.room)?;
-        let heads = self.heads.to_vec(alloc)?;
-        let mut before = self.before.to_vec(alloc)?;
-        before.reserve(self.room)?;
+        let slots = with_room(alloc, &self.slots, self.room)?;
+        let heads = with_room(alloc, &self.heads, 0)?;
+        let before = with_room(alloc, &self.before, self.room)?;
+        let counts = with_room(alloc, &self.counts, self.room)?;
         Ok(Track {
             start,
             mesh,
-            flips,
-            numbers,
+            slots,
             heads,
             before,
+            counts,
+            emptied: self.emptied,
             room: self.room,
         })
     }
