@@ -1,0 +1,9 @@
+pub mod Deciding
+pub mod Following
+pub mod Held
+pub mod Spares
+pub mod Sums
+pub mod SwapLaws
+pub mod Swapping
+pub mod Through
+pub mod Turns

@@ -1,0 +1,5 @@
+pub mod HeldPlans
+pub mod Laws
+pub mod States
+pub mod Steps
+pub mod SwapFaults

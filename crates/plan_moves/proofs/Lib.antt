@@ -1,0 +1,3 @@
+mod Openings
+pub mod Begun
+pub mod Lowered
