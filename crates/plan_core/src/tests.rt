@@ -140,12 +140,3 @@ fn one_round_saves_two(rt: HostRuntime) -> Result<(), Fail> {
     );
     Ok(())
 }
-
-fn is_shared_and_moved<T: Send + Sync + Drop>(_value: T) {}
-
-#[test]
-fn plans_go_between_threads(rt: HostRuntime) -> Result<(), Fail> {
-    is_shared_and_moved(opened(&rt, rt.alloc(), false)?);
-    is_shared_and_moved(MoveList::make(rt.alloc()));
-    Ok(())
-}
