@@ -21,7 +21,7 @@ use tri_check::Triang;
 
 /// A flip list, seen as the points, the edges where it starts, its flips, the edges where it ends, and how many more flips it can take without memory.
 ///
-/// Each flip stays in the slot that it came into, and one that is taken out leaves an empty slot, so nothing moves. The flips are chained by buckets of their images, of which there is one more than edges. So the flip that last made a triangle is found by looking at three chains, in the time of their lengths: constant on average, unless the images crowd into few buckets. Beside that `append`, `cancel` and `rounds_after` take the time of one flip of a mesh.
+/// Each flip stays in the slot that it came into, and one that is taken out leaves an empty slot, so nothing moves. The flips are chained by buckets of their images, of which there are at least as many as flips. So the flip that last made a triangle is found by looking at three chains, in the time of their lengths: constant on average, unless the images crowd into few buckets. Beside that `append`, `cancel` and `rounds_after` take the time of one flip of a mesh.
 #[derive(Drop)]
 pub struct Track {
     start: Triang,
@@ -87,7 +87,7 @@ impl Track {
         })
     }
 
-    /// Makes room for at least `k` more flips, and changes nothing else. It takes linear time where it grows, or drops the empty slots once they are more than half of all.
+    /// Makes room for at least `k` more flips, and changes nothing else. It takes linear time where it grows, or rebuilds the chains: with twice the buckets once the list may need more, and without the empty slots once they are more than half of all.
     pub fn reserve(&mut self, k: usize) -> Result<(), AllocError>
         ensures points { self.new.points ≡ self.old.points }
         ensures start { self.new.start ≡ self.old.start }
@@ -97,23 +97,28 @@ impl Track {
         ensures room { OnOk result (k ≤ self.new.spare) }
     {
         if k > self.room {
-            if self.emptied > self.slots.len() / 2 {
-                self.drop_empty_slots()?;
-            }
             self.slots.reserve(k)?;
             self.before.reserve(k)?;
             self.counts.reserve(k)?;
             self.room = k;
+            let buckets = self.heads.len();
+            let wanted = self.slots.len().saturating_add(k);
+            if wanted > buckets {
+                self.rebuild(wanted.saturating_mul(2))?;
+            } else if self.emptied > self.slots.len() / 2 {
+                self.rebuild(buckets)?;
+            }
         }
         Ok(())
     }
 
-    // Drops the empty slots, and changes nothing that is seen.
-    fn drop_empty_slots(&mut self) -> Result<(), AllocError>
+    // Chains the flips anew in so many buckets, drops the empty slots, and changes nothing that is seen.
+    fn rebuild(&mut self, buckets: usize) -> Result<(), AllocError>
+        requires { 0 < buckets }
         ensures { self.new ≡ self.old }
     {
         let alloc = *self.slots.allocator();
-        let (slots, heads, before) = compacted(alloc, &self.slots, self.heads.len(), self.room)?;
+        let (slots, heads, before) = compacted(alloc, &self.slots, buckets, self.room)?;
         self.slots = slots;
         self.heads = heads;
         self.before = before;
