@@ -83,7 +83,7 @@ walks_lower points plan words es h = walked points plan (take 8 words) [] plan e
 abbrev pub HasSide : Flip → Triangle → Type 0
 HasSide flip t = (t ≡ one_side flip) ⊎ (t ≡ other_side flip)
 
-free_means : (used : List Triangle) (flip : Flip) (t : Triangle) → is_free used flip ≡ true → Contains used t → HasSide flip t → ⊥
+pub free_means : (used : List Triangle) (flip : Flip) (t : Triangle) → is_free used flip ≡ true → Contains used t → HasSide flip t → ⊥
 free_means [] flip t f (k, l, e) s = omega arith
 free_means (u ∷ used) flip t f c s = by_place c (free_means used flip t (first f).1)
   where
@@ -117,7 +117,7 @@ module _ (points : List Point) (P : ArePlaced points) (T : List Edge) (I : IsTri
   J = AreJoined T
 
   -- an empty triangle with the flip's edge as a side is one of its two
-  side_tri : (g : Flip) → FlipsTo points T g.edge g.image → (x y z : ℕ) → IsEmptyTriangle points T x y z → edge x y ≡ g.edge → HasSide g (triangle x y z)
+  pub side_tri : (g : Flip) → FlipsTo points T g.edge g.image → (x y z : ℕ) → IsEmptyTriangle points T x y z → edge x y ≡ g.edge → HasSide g (triangle x y z)
   side_tri g (a, b, c, d, he, hf, q) x y z t e = by_same (edge_same a c x y (e ∙ he))
     where
       N : Net S J
@@ -389,11 +389,11 @@ module _ (points : List Point) (P : ArePlaced points) where
       member (a, b, c, d, he, hf, q) = subst (Contains U) (sym he) q.left.ab
 
   -- a round that takes something lowers the sum
-  round_falls : (centre T : List Edge) → IsTriangulation points T → weight_of points centre (after_flips T (greedy_round points centre T)) + length (greedy_round points centre T) ≤ weight_of points centre T
+  pub round_falls : (centre T : List Edge) → IsTriangulation points T → weight_of points centre (after_flips T (greedy_round points centre T)) + length (greedy_round points centre T) ≤ weight_of points centre T
   round_falls centre T I = let t = whole points P T I (crossings points centre) in flips_sum T I (crossings points centre) (greedy_round points centre T) T t.lower I t.leads
 
 -- ---- equal lists
-lists_decided : (es fs : List Edge) → Decides (are_equal es fs) (es ≡ fs)
+pub lists_decided : (es fs : List Edge) → Decides (are_equal es fs) (es ≡ fs)
 lists_decided [] [] = (λ h. refl, λ h. refl)
 lists_decided [] (f ∷ fs) = (λ h. absurd (cc), λ h. absurd (cc))
 lists_decided (e ∷ es) [] = (λ h. absurd (cc), λ h. absurd (cc))

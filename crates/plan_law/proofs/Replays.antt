@@ -82,7 +82,7 @@ repeats_tail : (e : Edge) (es : List Edge) → HasNoRepeats (e ∷ es) → HasNo
 repeats_tail e es up i j d h k = up (suc i) (suc j) d (omega arith) (omega arith)
 
 -- ---- free flips
-abbrev sides_of : List Flip → List Triangle
+abbrev pub sides_of : List Flip → List Triangle
 sides_of [] = []
 sides_of (g ∷ F) = one_side g ∷ other_side g ∷ sides_of F
 
@@ -103,7 +103,7 @@ module _ (points : List Point) (P : ArePlaced points) (T : List Edge) (I : IsTri
   S = plane points P
 
   -- the empty triangle at a side of a flip, from the flip's edge on
-  side_at : (g : Flip) (t : Triangle) → FlipsTo points T g.edge g.image → HasSide g t → (x y z : ℕ) × IsEmptyTriangle points T x y z × (edge x y ≡ g.edge) × (t ≡ triangle x y z)
+  pub side_at : (g : Flip) (t : Triangle) → FlipsTo points T g.edge g.image → HasSide g t → (x y z : ℕ) × IsEmptyTriangle points T x y z × (edge x y ≡ g.edge) × (t ≡ triangle x y z)
   side_at g t (a, b, c, d, he, hf, q) s = by_either (taken g a b c d he hf) s
     where
       turned : (x y z : ℕ) → IsEmptyTriangle points T x y z → IsEmptyTriangle points T y z x

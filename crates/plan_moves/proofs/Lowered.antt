@@ -35,7 +35,7 @@ alone (y ∷ []) x l s = ap (λ z. z ∷ []) (get_or_from_slice_get (y ∷ []) 0
 alone (y ∷ z ∷ xs) x l s = absurd (omega arith)
 
 -- ---- following
-instance_of : (points : List Point) (inputs : List (List Edge)) → IsProblem points inputs → IsInstance points inputs
+pub instance_of : (points : List Point) (inputs : List (List Edge)) → IsProblem points inputs → IsInstance points inputs
 instance_of points inputs p = record {
   placed = p.placed;
   triangulated = λ k d l. p.triangulated (get_or inputs k d) (Contains-get_or inputs k d l);

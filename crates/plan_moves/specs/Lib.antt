@@ -1,2 +1,6 @@
+pub mod Answers
+pub mod Draws
+pub mod Improved
+pub mod Rounds
 pub mod Settlings
 pub mod Ways

@@ -1,9 +1,10 @@
 -- What the steps of following edges and of settling do to a plan.
-use Rattle.std.specs.Prelude.{◌≡◌, ◌≤◌, Bool, true, false, Some, None, List, [], ◌∷◌, ◌++◌}
+use Rattle.std.specs.Prelude.{◌≡◌, ℕ, ◌≤◌, Bool, true, false, Some, None, List, [], ◌∷◌, ◌++◌}
 use Rattle.geo_orient.specs.declared.Point.{Point}
 use Rattle.edge_table.specs.declared.edge.Edge.{Edge}
 use Rattle.flip_list_law.specs.FlipLists.{in_turn}
-use Rattle.plan_law.specs.Plans.{Plan, plan_total, followed_all, first_lowering, Settles}
+use Rattle.plan_law.specs.Plans.{Plan, plan_total, followed_all, moves, first_lowering, Settles}
+use Rattle.plan_law.specs.Improvers.{picked}
 
 -- the edges can be followed one after the other, and lead to `next`; or they can't
 abbrev pub Follows : List Point → Plan → List Edge → Bool → Plan → Type 0
@@ -25,3 +26,8 @@ pub record IsBegun (points : List Point) (plan : Plan) (made : List (List Edge))
   pub settles : (rest : List (List Edge)) (end : Plan) → Settles points now rest end → Settles points plan (made ++ rest) end
   pub stands : followed_all points plan (in_turn made) ≡ Some now
   pub lower : plan_total now ≤ plan_total plan
+
+-- the move that a word picks is made, and its edges are added to those made; or there is no move, and nothing changes
+abbrev pub Walks : List Point → Plan → List Edge → ℕ → Bool → Plan → List Edge → Type 0
+Walks points plan made word true next edges = (move : List Edge) × (picked (moves points plan) word ≡ Some move) × (followed_all points plan move ≡ Some next) × (edges ≡ made ++ move)
+Walks points plan made word false next edges = (moves points plan ≡ []) × (next ≡ plan) × (edges ≡ made)

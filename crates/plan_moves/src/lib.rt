@@ -1,11 +1,20 @@
-//! Moves that improve a plan: settling makes the first move that lowers the total until none is left.
+//! What improves a plan: moves that settle it, walks over moves that words pick, and descents from its inputs to its centre.
 #![tactic(auto)]
 
+mod descending;
+mod greedy;
+mod improving;
 mod lowering;
 mod settling;
+mod walking;
 
+pub use descending::{Descent, descend};
+pub use improving::improve;
 pub use settling::settle;
+pub use walking::{Walk, walk_turn, walker};
 
+#[cfg(test)]
+mod improver_tests;
 #[cfg(test)]
 mod swap_tests;
 #[cfg(test)]

@@ -48,7 +48,7 @@ fn fans(alloc: Global) -> Result<RawInputs, AllocError> {
     Ok(inputs)
 }
 
-fn octagon(alloc: Global) -> Result<Arc<Instance>, Fail> {
+pub(crate) fn octagon(alloc: Global) -> Result<Arc<Instance>, Fail> {
     let raw = RawInstance {
         uid: Uid::of(alloc, "octagon")?,
         points: octagon_points(alloc)?,
@@ -58,17 +58,21 @@ fn octagon(alloc: Global) -> Result<Arc<Instance>, Fail> {
 }
 
 // The plan of an instance's opening.
-fn opening(alloc: Global, inst: Arc<Instance>) -> Result<Plan, Fail> {
+pub(crate) fn opening(alloc: Global, inst: Arc<Instance>) -> Result<Plan, Fail> {
     let opening = start(alloc, &inst, 100)?;
     Ok(Plan::opening(alloc, inst, opening.centre, opening.tracks)?)
 }
 
-fn corner_edge(rt: &impl Abort, a: u32, b: u32) -> Edge {
+pub(crate) fn corner_edge(rt: &impl Abort, a: u32, b: u32) -> Edge {
     Edge::of(a, b).expect(rt, "two points")
 }
 
 // A round of one edge, or of two.
-fn round(alloc: Global, first: Edge, second: Option<Edge>) -> Result<EdgeSeq, AllocError> {
+pub(crate) fn round(
+    alloc: Global,
+    first: Edge,
+    second: Option<Edge>,
+) -> Result<EdgeSeq, AllocError> {
     let mut edges = EdgeSeq::make(alloc);
     edges.push(first)?;
     if let Some(e) = second {
@@ -77,7 +81,7 @@ fn round(alloc: Global, first: Edge, second: Option<Edge>) -> Result<EdgeSeq, Al
     Ok(edges)
 }
 
-fn four_rounds(rt: &impl Abort, alloc: Global) -> Result<Rounds, AllocError> {
+pub(crate) fn four_rounds(rt: &impl Abort, alloc: Global) -> Result<Rounds, AllocError> {
     let e = |a: u32, b: u32| corner_edge(rt, a, b);
     let mut rounds = Rounds::make(alloc);
     rounds.push(round(alloc, e(1, 4), Some(e(1, 6)))?)?;

@@ -13,7 +13,7 @@ use std::sync::Arc;
 use std::test::Fail;
 use tri_check::{Instance, PairList, PointList, RawInputs, RawInstance, RawPair, Triang, Uid};
 
-const SQUARE: [(i64, i64); 4] = [(0, 0), (2, 0), (2, 2), (0, 2)];
+pub(crate) const SQUARE: [(i64, i64); 4] = [(0, 0), (2, 0), (2, 2), (0, 2)];
 
 const HEXAGON: [(i64, i64); 6] = [(5, 0), (3, 4), (-3, 4), (-5, 0), (-3, -4), (3, -4)];
 
@@ -21,7 +21,7 @@ fn edge(rt: &impl Abort, a: u32, b: u32) -> Edge {
     Edge::of(a, b).expect(rt, "two points")
 }
 
-fn points_of(alloc: Global, places: &[(i64, i64)]) -> Result<PointList, AllocError> {
+pub(crate) fn points_of(alloc: Global, places: &[(i64, i64)]) -> Result<PointList, AllocError> {
     let mut points = PointList::make(alloc);
     for i in 0..places.len() {
         points.push(Point {
@@ -128,7 +128,7 @@ fn is_only_move(made: &MoveList, first: Edge, second: Option<Edge>) -> bool {
     made.len() == 1 && has_edges(made.at(0), first, second)
 }
 
-fn square(rt: &impl Abort, alloc: Global) -> Result<Plan, Fail> {
+pub(crate) fn square(rt: &impl Abort, alloc: Global) -> Result<Plan, Fail> {
     let inst = instance(
         alloc,
         points_of(alloc, &SQUARE)?,
