@@ -1,0 +1,9 @@
+pub mod Commands
+pub mod Fits
+pub mod Loops
+pub mod Matches
+pub mod Meets
+pub mod Numbers
+pub mod Scans
+pub mod Steps
+pub mod Walks

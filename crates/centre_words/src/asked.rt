@@ -1,0 +1,44 @@
+// What words ask for, and why they may ask for nothing.
+ghost use Rattle.std.specs.Prelude.{◌≡◌};
+ghost use Rattle.centre_words.specs.declared.asked.WordsFault.TheVariants as faults;
+
+use crate::name::Name;
+use std::alloc::AllocError;
+
+/// What is asked for, with the names of the files.
+#[derive(Debug, PartialEq, Eq, Drop)]
+pub enum Asked {
+    /// Whether a file holds an instance.
+    Check {
+        instance: Name,
+    },
+    /// The total of a solution of an instance.
+    Score {
+        instance: Name,
+        solution: Name,
+    },
+    /// A solution of an instance, which is written. The turns are those of improvers, which draw from the seed. No input is given more flips than the last number, where there is one.
+    Solve {
+        instance: Name,
+        solution: Name,
+        turns: u32,
+        seed: u64,
+        flips: Option<u64>,
+    },
+}
+
+/// Why nothing was read.
+#[derive(Clone, Copy, Debug, PartialEq, Eq)]
+pub enum WordsFault {
+    /// The words are those of no command.
+    Words,
+    OutOfMemory,
+}
+
+impl From<AllocError> for WordsFault {
+    ghost from_gives = { λ _ e. e ≡ faults.OutOfMemory };
+
+    fn from(_: AllocError) -> Self {
+        WordsFault::OutOfMemory
+    }
+}

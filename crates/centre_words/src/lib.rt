@@ -1,0 +1,16 @@
+//! The words of a command line, read with `clap`.
+#![tactic(auto)]
+
+mod asked;
+mod command;
+mod name;
+mod number;
+mod plain;
+mod read;
+
+pub use asked::{Asked, WordsFault};
+pub use name::Name;
+pub use read::{laws, read_words};
+
+#[cfg(test)]
+mod tests;
