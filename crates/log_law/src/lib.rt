@@ -8,6 +8,15 @@ pub struct Lit {
     pub on: bool,
 }
 
+/// A literal that a search has made true, at a level. The reason is the identifier of the clause that did so by a
+/// unit step, and a decision has none.
+#[derive(Clone, Copy, Debug)]
+pub struct Step {
+    pub literal: Lit,
+    pub level: u32,
+    pub reason: Option<u32>,
+}
+
 /// The first fault of a log, with the place of the line that has it. Lines count from 0, and a line is tried for
 /// its faults in this order.
 #[derive(Clone, Copy, PartialEq, Eq, Debug)]
@@ -29,7 +38,7 @@ pub enum LogFault {
 ghost use Rattle.log_law.specs.LogLaws.{FollowingLinesAreImplied, FollowingLogsAreImplied, RefutedFormulasHaveNoModel, FaultlessStepsFollow, FaultlessLogsRefute, KnownClausesFit, NewLinesAreUnsaid, LogsGrow, LinesCostThree};
 ghost use Rattle.log_law.specs.UnitLaws.{MembersAreTrue, UnitClauses, StillClauses};
 ghost use Rattle.log_law.specs.Marks.{MarksAreMembers, MarksBegin, MarksGoBack, MarksAssert, MarksAreApart};
-ghost use Rattle.log_law.specs.SearchLaws.{LearntLinesFollow, LearntLinesAreNew, EmptyLearntLinesAreNew, ResolutionsKeepTheLevel, ResolutionsStayFalse, LaterStepsHaveReasons, ReasonsAreEarlier, LearntLinesAssert, NoStepsAreATrail, UnitStepsKeepTrails, DecisionsKeepTrails, GoingBackKeepsTrails, LearntClausesKeepTrails, FullRestIsAModel, ListedRestIsAModel};
+ghost use Rattle.log_law.specs.SearchLaws.{LearntLinesFollow, LearntLinesAreNew, EmptyLearntLinesAreNew, ResolutionsKeepTheLevel, ResolutionsStayFalse, LaterStepsHaveReasons, ReasonsAreEarlier, LearntLinesAssert, StepsAreFound, ValuesAreOfSteps, NoStepsAreATrail, UnitStepsKeepTrails, DecisionsKeepTrails, GoingBackKeepsTrails, LearntClausesKeepTrails, FullRestIsAModel, ListedRestIsAModel};
 
 /// The laws of partial assignments and unit clauses.
 pub fn laws_of_units()
@@ -72,8 +81,10 @@ pub fn laws_of_marks()
     ensures marks_are_apart { MarksAreApart }
 {}
 
-/// The laws of what keeps a search's trail a trail.
+/// The laws of looking a trail's steps up, and of what keeps a search's trail a trail.
 pub fn laws_of_trails()
+    ensures steps_are_found { StepsAreFound }
+    ensures values_are_of_steps { ValuesAreOfSteps }
     ensures no_steps_are_a_trail { NoStepsAreATrail }
     ensures unit_steps_keep_trails { UnitStepsKeepTrails }
     ensures decisions_keep_trails { DecisionsKeepTrails }

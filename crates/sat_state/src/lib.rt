@@ -1,0 +1,12 @@
+//! The state of a search for a model: clauses, the trail of literals that are true, and unit steps.
+#![tactic(auto)]
+
+mod count;
+mod look;
+mod spread;
+mod state;
+mod steps;
+mod table;
+mod uses;
+
+pub use state::State;
