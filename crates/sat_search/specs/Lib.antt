@@ -1,0 +1,4 @@
+pub mod Answers
+pub mod Choices
+pub mod Lessons
+pub mod Resolutions

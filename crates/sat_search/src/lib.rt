@@ -1,0 +1,14 @@
+//! A search for a model that learns a clause from each conflict, and keeps a hinted log of what it learnt.
+#![tactic(auto)]
+
+mod left;
+mod lesson;
+mod marks;
+mod order;
+mod resolution;
+mod search;
+
+pub use search::{Answer, solve};
+
+#[cfg(test)]
+mod tests;
