@@ -14,7 +14,7 @@ use Rattle.tri_theory.proofs.Flip.{Same}
 use Rattle.tri_theory.proofs.Lists.{plane}
 use Rattle.formula_law.proofs.Quads.{second_turns}
 use Rattle.flip_cnf.specs.Found.{IsClear}
-use Rattle.flip_cnf.specs.Tables.{IsBare}
+use Rattle.flip_cnf.specs.Tables.{IsEmptyOfPoints}
 
 pub flips_cross : (points : List Point) (e f : Edge) → MayFlip points e f → Crosses points e f
 flips_cross points e f (a, b, c, d, i, j, q) = subst₂ (Crosses points) (sym i) (sym j) q.crosses
@@ -58,17 +58,17 @@ module _ (points : List Point) (P : ArePlaced points) where
   )
 
   -- by the two triangles
-  pub bare_iff : (a b c d : ℕ) → IsLeft points a b c → IsLeft points a c d → (IsBare points a b c × IsBare points a c d) ↔ IsEmpty points a b c d
-  bare_iff a b c d right left = (λ (x, y) p h na nb nc nd. (x p h na nb nc, y p h na nc nd), λ h. (first h, second h))
+  pub empty_of_points_iff : (a b c d : ℕ) → IsLeft points a b c → IsLeft points a c d → (IsEmptyOfPoints points a b c × IsEmptyOfPoints points a c d) ↔ IsEmpty points a b c d
+  empty_of_points_iff a b c d right left = (λ (x, y) p h na nb nc nd. (x p h na nb nc, y p h na nc nd), λ h. (first h, second h))
     where
-      first : IsEmpty points a b c d → IsBare points a b c
+      first : IsEmpty points a b c d → IsEmptyOfPoints points a b c
       first h p l na nb nc = by_test (ℕ_discrete p d)
         where
           by_test : Dec (p ≡ d) → IsOutside points a b c p
           by_test (yes e) = subst (λ w. IsOutside points a b c w) (sym e) (inr (inr left))
           by_test (no nd) = (h p l na nb nc nd).0
 
-      second : IsEmpty points a b c d → IsBare points a c d
+      second : IsEmpty points a b c d → IsEmptyOfPoints points a c d
       second h p l na nc nd = by_test (ℕ_discrete p b)
         where
           by_test : Dec (p ≡ b) → IsOutside points a c d p

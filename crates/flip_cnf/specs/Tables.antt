@@ -23,14 +23,14 @@ pub record IsTableUpto (P : ℕ → ℕ → ℕ → Type 0) (n : ℕ) (table : L
   pub entries : (k : ℕ) → k < i → Tells P n k (slice_index_or table k false)
 
 -- no other point lies in the closed triangle a, b, c, whose corners are named counter-clockwise
-abbrev pub IsBare : List Point → ℕ → ℕ → ℕ → Type 0
-IsBare points a b c = (p : ℕ) → p < length points → p ≢ a → p ≢ b → p ≢ c → IsOutside points a b c p
+abbrev pub IsEmptyOfPoints : List Point → ℕ → ℕ → ℕ → Type 0
+IsEmptyOfPoints points a b c = (p : ℕ) → p < length points → p ≢ a → p ≢ b → p ≢ c → IsOutside points a b c p
 
--- which three points turn left, and which triangles are bare
-pub record AreTables (points : List Point) (turns bare : List Bool) : Type 0 where
+-- which three points turn left, and which triangles hold no other point
+pub record AreTables (points : List Point) (turns empties : List Bool) : Type 0 where
   pub few : length points ≤ 64
   pub left : IsTable (IsLeft points) (length points) turns
-  pub empty : IsTable (IsBare points) (length points) bare
+  pub empty : IsTable (IsEmptyOfPoints points) (length points) empties
 
 -- p is a corner, or lies outside the closed triangle
 abbrev pub IsApart : List Point → ℕ → ℕ → ℕ → ℕ → Type 0

@@ -20,7 +20,7 @@ fn add_crossing(
 ) -> Result<(), AllocError>
     requires order { i < j }
     requires within { j < length segments.now }
-    requires tables { AreTables inst.now.points tables.now.turns.items tables.now.bare.items }
+    requires tables { AreTables inst.now.points tables.now.turns.items tables.now.empties.items }
     requires segments { AreSegments inst.now.points segments.now }
     requires found { AreFound (IsCrossing inst.now.points segments.now) 4096 pairs.old.items i j }
     ensures { OnOk result (AreFound (IsCrossing inst.now.points segments.now) 4096 pairs.new.items i (j + 1)) }
@@ -41,7 +41,7 @@ fn add_from(
     i: u32,
 ) -> Result<(), AllocError>
     requires within { i < length segments.now }
-    requires tables { AreTables inst.now.points tables.now.turns.items tables.now.bare.items }
+    requires tables { AreTables inst.now.points tables.now.turns.items tables.now.empties.items }
     requires segments { AreSegments inst.now.points segments.now }
     requires found { AreFound (IsCrossing inst.now.points segments.now) 4096 pairs.old.items i 0 }
     ensures { OnOk result (AreFound (IsCrossing inst.now.points segments.now) 4096 pairs.new.items (i + 1) 0) }
@@ -59,7 +59,7 @@ pub(crate) fn crossings(
     tables: &Tables,
     segments: &[Edge],
 ) -> Result<Vec<(u32, u32)>, AllocError>
-    requires tables { AreTables inst.now.points tables.now.turns.items tables.now.bare.items }
+    requires tables { AreTables inst.now.points tables.now.turns.items tables.now.empties.items }
     requires segments { AreSegments inst.now.points segments.now }
     ensures { IfOk result (λ found. AreFound (IsCrossing inst.now.points segments.now) 4096 found.items (length segments.now) 0) }
 {

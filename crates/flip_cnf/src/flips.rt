@@ -14,7 +14,7 @@ use tri_check::Instance;
 
 // Whether the closed quadrilateral of two triangles that turn left holds no points but its corners.
 fn is_empty(inst: &Instance, tables: &Tables, a: u32, b: u32, c: u32, d: u32) -> bool
-    requires tables { AreTables inst.now.points tables.now.turns.items tables.now.bare.items }
+    requires tables { AreTables inst.now.points tables.now.turns.items tables.now.empties.items }
     requires first { a < length inst.now.points }
     requires second { b < length inst.now.points }
     requires third { c < length inst.now.points }
@@ -29,7 +29,7 @@ fn is_empty(inst: &Instance, tables: &Tables, a: u32, b: u32, c: u32, d: u32) ->
 
 // Whether `e` may flip to `f`. Both are segments.
 fn may_flip(inst: &Instance, tables: &Tables, e: Edge, f: Edge) -> bool
-    requires tables { AreTables inst.now.points tables.now.turns.items tables.now.bare.items }
+    requires tables { AreTables inst.now.points tables.now.turns.items tables.now.empties.items }
     requires from { IsSegment inst.now.points e }
     requires to { IsSegment inst.now.points f }
     ensures { IsTrue result ↔ MayFlip inst.now.points e f }
@@ -60,7 +60,7 @@ fn add_flip(
 ) -> Result<(), AllocError>
     requires from { i < length segments.now }
     requires to { j < length segments.now }
-    requires tables { AreTables inst.now.points tables.now.turns.items tables.now.bare.items }
+    requires tables { AreTables inst.now.points tables.now.turns.items tables.now.empties.items }
     requires segments { AreSegments inst.now.points segments.now }
     requires found { AreFound (IsSwap inst.now.points segments.now) 4096 pairs.old.items i j }
     ensures { OnOk result (AreFound (IsSwap inst.now.points segments.now) 4096 pairs.new.items i (j + 1)) }
@@ -81,7 +81,7 @@ fn add_from(
     i: u32,
 ) -> Result<(), AllocError>
     requires within { i < length segments.now }
-    requires tables { AreTables inst.now.points tables.now.turns.items tables.now.bare.items }
+    requires tables { AreTables inst.now.points tables.now.turns.items tables.now.empties.items }
     requires segments { AreSegments inst.now.points segments.now }
     requires found { AreFound (IsSwap inst.now.points segments.now) 4096 pairs.old.items i 0 }
     ensures { OnOk result (AreFound (IsSwap inst.now.points segments.now) 4096 pairs.new.items (i + 1) 0) }
@@ -99,7 +99,7 @@ pub(crate) fn flips(
     tables: &Tables,
     segments: &[Edge],
 ) -> Result<Vec<(u32, u32)>, AllocError>
-    requires tables { AreTables inst.now.points tables.now.turns.items tables.now.bare.items }
+    requires tables { AreTables inst.now.points tables.now.turns.items tables.now.empties.items }
     requires segments { AreSegments inst.now.points segments.now }
     ensures { IfOk result (λ found. AreFound (IsSwap inst.now.points segments.now) 4096 found.items (length segments.now) 0) }
 {

@@ -47,7 +47,7 @@ impl Model for Frame {
 }
 
 impl Frame {
-    /// The frame of the points of an instance. For at most 64 points its time grows with the fourth power of their number, and for each flip with that number; its memory grows with the number of crossings and flips, 8 bytes for each. For more points it is done at once.
+    /// The frame of the points of an instance. For at most 64 points its time grows with the fourth power of their number, and it keeps 8 bytes for each crossing and each flip. For more points it is done at once.
     pub fn of(alloc: Global, inst: &Instance) -> Result<Frame, AllocError>
         ensures { IfOk result (IsHeldFrame inst.now.points) }
     {

@@ -34,7 +34,7 @@ impl Model for Lists {
 }
 
 impl Lists {
-    // Those of the points of an instance. Time grows with the fourth power of the number of points, and for each flip with that number.
+    // Those of the points of an instance.
     pub(crate) fn of(alloc: Global, inst: &Instance) -> Result<Self, AllocError>
         requires { length inst.now.points ≤ 64 }
         ensures { IfOk result (IsFrame inst.now.points) }

@@ -2,7 +2,7 @@
 ghost use Rattle.std.specs.Prelude.{◌≡◌, ◌*◌, ◌<◌, ◌≤◌, ◌↔◌, false, length, slice_index_or, IsTrue, IfOk};
 ghost use Rattle.tri_theory.specs.Points.{IsLeft, AreApart};
 ghost use Rattle.tri_theory.specs.Triangulations.{Crosses};
-ghost use Rattle.flip_cnf.specs.Tables.{AreTables, IsApart, IsBare, IsTable, Tells, place};
+ghost use Rattle.flip_cnf.specs.Tables.{AreTables, IsApart, IsEmptyOfPoints, IsTable, Tells, place};
 
 use crate::points::is_left_of;
 use edge_table::Edge;
@@ -13,7 +13,7 @@ use tri_check::Instance;
 #[derive(Drop)]
 pub struct Tables {
     turns: Vec<bool>,
-    bare: Vec<bool>,
+    empties: Vec<bool>,
 }
 
 // The entry of `a`, `b`, `c`.
@@ -87,13 +87,13 @@ fn is_apart(inst: &Instance, turns: &[bool], a: u32, b: u32, c: u32, p: u32) -> 
 }
 
 // Whether the closed triangle holds no points but its corners.
-fn is_bare(inst: &Instance, turns: &[bool], a: u32, b: u32, c: u32) -> bool
+fn is_empty_of_points(inst: &Instance, turns: &[bool], a: u32, b: u32, c: u32) -> bool
     requires few { length inst.now.points ≤ 64 }
     requires table { IsTable (IsLeft inst.now.points) (length inst.now.points) turns.now }
     requires first { a < length inst.now.points }
     requires second { b < length inst.now.points }
     requires third { c < length inst.now.points }
-    ensures { IsTrue result ↔ IsBare inst.now.points a b c }
+    ensures { IsTrue result ↔ IsEmptyOfPoints inst.now.points a b c }
 {
     for p in 0..inst.count() {
         if !is_apart(inst, turns, a, b, c, p) {
@@ -103,12 +103,12 @@ fn is_bare(inst: &Instance, turns: &[bool], a: u32, b: u32, c: u32) -> bool
     true
 }
 
-// The entry at place `i` of the table of bare triangles.
-fn bare_at(inst: &Instance, turns: &[bool], i: u32) -> bool
+// The entry at place `i` of the table of empty triangles.
+fn empty_at(inst: &Instance, turns: &[bool], i: u32) -> bool
     requires few { length inst.now.points ≤ 64 }
     requires table { IsTable (IsLeft inst.now.points) (length inst.now.points) turns.now }
     requires within { i < length inst.now.points * 4096 }
-    ensures { Tells (IsBare inst.now.points) (length inst.now.points) i result }
+    ensures { Tells (IsEmptyOfPoints inst.now.points) (length inst.now.points) i result }
 {
     let b = i / 64 % 64;
     let c = i % 64;
@@ -118,17 +118,17 @@ fn bare_at(inst: &Instance, turns: &[bool], i: u32) -> bool
     if c >= inst.count() {
         return false;
     }
-    is_bare(inst, turns, i / 4096, b, c)
+    is_empty_of_points(inst, turns, i / 4096, b, c)
 }
 
-fn bare(alloc: Global, inst: &Instance, turns: &[bool]) -> Result<Vec<bool>, AllocError>
+fn empties(alloc: Global, inst: &Instance, turns: &[bool]) -> Result<Vec<bool>, AllocError>
     requires few { length inst.now.points ≤ 64 }
     requires table { IsTable (IsLeft inst.now.points) (length inst.now.points) turns.now }
-    ensures { IfOk result (λ table. IsTable (IsBare inst.now.points) (length inst.now.points) table.items) }
+    ensures { IfOk result (λ table. IsTable (IsEmptyOfPoints inst.now.points) (length inst.now.points) table.items) }
 {
     let mut table = Vec::new(alloc);
     for i in 0..inst.count() * 4096 {
-        table.push(bare_at(inst, turns, i))?;
+        table.push(empty_at(inst, turns, i))?;
     }
     Ok(table)
 }
@@ -136,16 +136,16 @@ fn bare(alloc: Global, inst: &Instance, turns: &[bool]) -> Result<Vec<bool>, All
 // Both tables of the points of an instance.
 pub(crate) fn make_tables(alloc: Global, inst: &Instance) -> Result<Tables, AllocError>
     requires { length inst.now.points ≤ 64 }
-    ensures { IfOk result (λ t. AreTables inst.now.points t.turns.items t.bare.items) }
+    ensures { IfOk result (λ t. AreTables inst.now.points t.turns.items t.empties.items) }
 {
     let turns = turns(alloc, inst)?;
-    let bare = bare(alloc, inst, &turns)?;
-    Ok(Tables { turns, bare })
+    let empties = empties(alloc, inst, &turns)?;
+    Ok(Tables { turns, empties })
 }
 
 // Whether `c` lies strictly left of the way from `a` to `b`.
 pub(crate) fn is_left(inst: &Instance, tables: &Tables, a: u32, b: u32, c: u32) -> bool
-    requires tables { AreTables inst.now.points tables.now.turns.items tables.now.bare.items }
+    requires tables { AreTables inst.now.points tables.now.turns.items tables.now.empties.items }
     requires first { a < length inst.now.points }
     requires second { b < length inst.now.points }
     requires third { c < length inst.now.points }
@@ -156,19 +156,19 @@ pub(crate) fn is_left(inst: &Instance, tables: &Tables, a: u32, b: u32, c: u32) 
 
 // Whether no other point lies in the closed triangle.
 pub(crate) fn holds_none(inst: &Instance, tables: &Tables, a: u32, b: u32, c: u32) -> bool
-    requires tables { AreTables inst.now.points tables.now.turns.items tables.now.bare.items }
+    requires tables { AreTables inst.now.points tables.now.turns.items tables.now.empties.items }
     requires first { a < length inst.now.points }
     requires second { b < length inst.now.points }
     requires third { c < length inst.now.points }
-    ensures { IsTrue result ↔ IsBare inst.now.points a b c }
+    ensures { IsTrue result ↔ IsEmptyOfPoints inst.now.points a b c }
 {
     let _ = inst;
-    entry(&tables.bare, a, b, c)
+    entry(&tables.empties, a, b, c)
 }
 
 // Whether `c` and `d` lie strictly on opposite sides of the line of `a` and `b`.
 fn are_apart(inst: &Instance, tables: &Tables, a: u32, b: u32, c: u32, d: u32) -> bool
-    requires tables { AreTables inst.now.points tables.now.turns.items tables.now.bare.items }
+    requires tables { AreTables inst.now.points tables.now.turns.items tables.now.empties.items }
     requires first { a < length inst.now.points }
     requires second { b < length inst.now.points }
     requires third { c < length inst.now.points }
@@ -181,7 +181,7 @@ fn are_apart(inst: &Instance, tables: &Tables, a: u32, b: u32, c: u32, d: u32) -
 
 // Whether the two edges cross.
 pub(crate) fn crosses(inst: &Instance, tables: &Tables, e: Edge, f: Edge) -> bool
-    requires tables { AreTables inst.now.points tables.now.turns.items tables.now.bare.items }
+    requires tables { AreTables inst.now.points tables.now.turns.items tables.now.empties.items }
     requires first { e.1 < length inst.now.points }
     requires second { f.1 < length inst.now.points }
     ensures { IsTrue result ↔ Crosses inst.now.points e f }

@@ -1,6 +1,6 @@
 use Rattle.std.proofs.Common.{◌↔◌, ◌<◌, ◌∙◌, false, get_or, length, sym, ap, subst}
 use Rattle.std.specs.Bool.{IsTrue}
-use Rattle.flip_cnf.specs.Tables.{IsBare, place}
+use Rattle.flip_cnf.specs.Tables.{IsEmptyOfPoints, place}
 use Rattle.flip_cnf.proofs.Entries.{within_table}
 use Rattle.flip_cnf.proofs.tables.holds_none.Goals as goal
 
@@ -11,5 +11,5 @@ entry-requires-clause-within c =
 
 pub returns : goal.returns
 returns c =
-    subst (λ x. IsTrue x ↔ IsBare c.args.inst.now.points c.args.a c.args.b c.args.c) (sym (c.entry.ensures ∙ ap (λ table. get_or table (place c.args.a c.args.b c.args.c) false) c.deref.ensures.value))
+    subst (λ x. IsTrue x ↔ IsEmptyOfPoints c.args.inst.now.points c.args.a c.args.b c.args.c) (sym (c.entry.ensures ∙ ap (λ table. get_or table (place c.args.a c.args.b c.args.c) false) c.deref.ensures.value))
     (c.requires.tables.empty.entries c.args.a c.args.b c.args.c c.requires.first c.requires.second c.requires.third)
