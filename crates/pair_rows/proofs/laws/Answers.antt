@@ -1,0 +1,5 @@
+use Rattle.pair_rows.proofs.RowLaws.{justified_rows_are_true}
+use Rattle.pair_rows.proofs.laws.Goals as goal
+
+pub returns : goal.returns
+returns _ = record { justified_rows_are_true = justified_rows_are_true }

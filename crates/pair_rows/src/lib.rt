@@ -1,0 +1,18 @@
+//! How many rounds two inputs of an instance are apart: a lower bound with what shows it, and why it isn't higher.
+#![tactic(auto)]
+
+ghost use Rattle.pair_rows.specs.Laws.{JustifiedRowsAreTrue};
+
+mod proving;
+mod row;
+
+pub use proving::prove_pair;
+pub use row::{End, Evidence, Row};
+
+/// The law of rows.
+pub fn laws()
+    ensures justified_rows_are_true { JustifiedRowsAreTrue }
+{}
+
+#[cfg(test)]
+mod tests;
