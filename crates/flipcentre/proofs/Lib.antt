@@ -1,4 +1,3 @@
 mod Once
-mod Opened
+mod Found
 mod Saying
-mod Shapes

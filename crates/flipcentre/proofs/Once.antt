@@ -1,7 +1,7 @@
 -- The words and the files that a store tells call for one status.
-use Rattle.std.proofs.Common.{◌≡◌, ◌≢◌, ◌⊎◌, inl, inr, ◌∙◌, sym, ap, ap₂, refl, subst, ℕ, ◌≤◌, ◌+◌, ℤ, pos, unsigned_abs, List, [], ◌∷◌, map, drop, slice_index_or, Option, Some, None}
+use Rattle.std.proofs.Common.{◌≡◌, ◌⊎◌, inl, inr, ◌∙◌, sym, ap, ap₂, refl, subst, ℕ, ◌≤◌, ◌+◌, unsigned_abs, List, [], ◌∷◌, drop, slice_index_or, Option, Some, None}
 use Rattle.std.specs.FinMap as map
-use Rattle.host_io.specs.Store.{Held}
+use Rattle.host_io.specs.Store.{Held, Rose}
 use Rattle.edge_table.specs.declared.edge.Edge.{Edge}
 use Rattle.edge_table.proofs.Ascending.{same_members}
 use Rattle.geo_orient.specs.declared.Point.{Point}
@@ -11,9 +11,6 @@ use Rattle.instance_json.proofs.Once.{spelled_once}
 use Rattle.solution_json.proofs.Once as solution
 use Rattle.solution_json.specs.declared.solution.Solution.{Solution}
 use Rattle.replay.proofs.ScoreLaws.{plans_have_no_fault}
-use Rattle.replay.specs.declared.fault.ScoreFault.{ScoreFault}
-use Rattle.std.specs.Prelude.{All}
-use Rattle.std.specs.Str.Parse.{digits_value}
 use Rattle.json_value.proofs.Steps.{holds_at}
 use Rattle.lawson_law.specs.LawsonRuns.{IsLawsonRunLonger}
 use Rattle.lawson_start.specs.Starts.{AreWithin, IsOverBudget}
@@ -24,27 +21,18 @@ use Rattle.tri_check.specs.Accepted.{IsAccepted}
 use Rattle.tri_theory.specs.Inputs.{IsCompleted}
 use Rattle.flipcentre.specs.declared.status.Status.{Status}
 use Rattle.flipcentre.specs.declared.status.Status.TheVariants.{Done, Words, Refused, FlipBudget, Memory, ReadFault, WriteFault, No}
-use Rattle.flipcentre.specs.Words.{Command, Check, Score, Solve, Asks, IsUnasked}
-use Rattle.flipcentre.specs.Runs.{SpellsValid, NamesInstanceFault, SpellsInstance, SpellsSolution, IsSolved, NamesScoreFault, NamesFileFault, SolutionSays, CheckSays, ScoreSays, OpeningSays, SolveSays, Files, CommandSays, LacksFile, files_of, Says}
+use Rattle.centre_words.specs.declared.asked.Asked.{Asked}
+use Rattle.centre_words.specs.declared.asked.Asked.TheVariants.{Check, Score, Solve}
+use Rattle.centre_words.specs.Words.{Asks}
+use Rattle.centre_words.proofs.Meets.{words_ask_once}
+use Rattle.plan_solve.specs.declared.order.Order.{Order}
+use Rattle.flipcentre.specs.declared.solving.SolveOptions.{SolveOptions}
+use Rattle.flipcentre.specs.Orders.{order_of}
+use Rattle.flipcentre.specs.Runs.{SpellsValid, NamesInstanceFault, SpellsInstance, SpellsSolution, IsSolved, NamesScoreFault, NamesFileFault, SolutionSays, CheckSays, ScoreSays, OrderSays, SolveSays, Files, CommandSays, LacksFile, files_of, Says, HasReadCause}
 
--- words ask for one command
-asks_once : (words : List (List ℕ)) (c d : Command) → Asks words c → Asks words d → c ≡ d
-asks_once words (Check i) (Check j) a b = ap (λ names. Check (slice_index_or names 1 i)) (sym a.0 ∙ b.0)
-asks_once words (Check i) (Score j t) a b = let clash = sym a.0 ∙ b.0 in cc
-asks_once words (Score i s) (Check j) a b = let clash = sym a.0 ∙ b.0 in cc
-asks_once words (Check i) (Solve j t m) a (v, f, j_name, t_name, apart, other) = let clash = sym a.0 ∙ f in cc
-asks_once words (Score i s) (Solve j t m) a (v, f, j_name, t_name, apart, other) = let clash = sym a.0 ∙ f in cc
-asks_once words (Solve i s n) (Check j) (w, e, i_name, s_name, differ, number) b = let clash = sym e ∙ b.0 in cc
-asks_once words (Solve i s n) (Score j t) (w, e, i_name, s_name, differ, number) b = let clash = sym e ∙ b.0 in cc
-asks_once words (Solve i s n) (Solve j t m) (w, e, i_name, s_name, differ, number) (v, f, j_name, t_name, apart, other) =
-    let same = sym e ∙ f in
-    ap (λ k. Solve i s k) number.value
-    ∙ (ap (λ names. Solve (slice_index_or names 1 i) (slice_index_or names 2 s) (digits_value 10 (slice_index_or names 3 w))) same ∙ ap (λ k. Solve j t k) (sym other.value))
-asks_once words (Score i s) (Score j t) a b = ap (λ names. Score (slice_index_or names 1 i) (slice_index_or names 2 s)) (sym a.0 ∙ b.0)
-
--- so the bound on calls is that of the command that was asked for
-pub calls_once : (words : List (List ℕ)) (c : Command) (before now : ℕ) → Asks words c → now ≤ before + files_of c → (d : Command) → Asks words d → now ≤ before + files_of d
-calls_once words c before now a bound d b = subst (λ e. now ≤ before + files_of e) (asks_once words c d a b) bound
+-- the bound on calls is that of the command that was asked for
+pub calls_once : (words : List (List ℕ)) (c : Asked) (before now : ℕ) → Asks words c → now ≤ before + files_of c → (d : Asked) → Asks words d → now ≤ before + files_of d
+calls_once words c before now a bound d b = subst (λ e. now ≤ before + files_of e) (words_ask_once words c d a b) bound
 
 -- a text that spells a valid instance has no fault
 valid_faultless : (bytes : List ℕ) (raw : RawInstance) (line : List ℕ) → SpellsValid bytes raw → NamesInstanceFault bytes line → ⊥
@@ -144,50 +132,54 @@ module _ (bytes others : List ℕ) where
       (solved_faultless i x l a.problem) (solved_faultless i x k a.problem) (solution_kind i x s k says) (solution_kind i x t l other)
 
 abbrev pub IsTooLong : Problem → ℕ → Type 0
-IsTooLong i budget = (t : ℕ) × IsOverBudget i.points i.inputs budget t
+IsTooLong i flips = (t : ℕ) × IsOverBudget i.points i.inputs flips t
 
-opening_kind : (i : Problem) (n : ℕ) (s : Status) (k : List ℕ) (text : Option (List ℕ)) → OpeningSays i n s k text → ((s ≡ Done) × AreWithin i.points i.inputs n) ⊎ ((s ≡ FlipBudget) × IsTooLong i n)
-opening_kind i n Done k text (x, is, line, file) = inl (refl, is.opened.within)
-opening_kind i n FlipBudget k text (t, over, line, file) = inr (refl, (t, over))
-opening_kind i n Words k text a = absurd a
-opening_kind i n Refused k text a = absurd a
-opening_kind i n Memory k text a = absurd a
-opening_kind i n ReadFault k text a = absurd a
-opening_kind i n WriteFault k text a = absurd a
-opening_kind i n No k text a = absurd a
+order_kind : (i : Problem) (o : Order) (s : Status) (k : List ℕ) (text : Option (List ℕ)) → OrderSays i o s k text → ((s ≡ Done) × AreWithin i.points i.inputs o.flips) ⊎ ((s ≡ FlipBudget) × IsTooLong i o.flips)
+order_kind i o Done k text (x, is, line, file) = inl (refl, is.found.opens.within)
+order_kind i o FlipBudget k text (t, over, line, file) = inr (refl, (t, over))
+order_kind i o Words k text a = absurd a
+order_kind i o Refused k text a = absurd a
+order_kind i o Memory k text a = absurd a
+order_kind i o ReadFault k text a = absurd a
+order_kind i o WriteFault k text a = absurd a
+order_kind i o No k text a = absurd a
 
 within_budget : (i : Problem) (n : ℕ) → AreWithin i.points i.inputs n → IsTooLong i n → ⊥
 within_budget i n within (t, over) = holds_at (λ input. ¬ IsLawsonRunLonger i.points input n) i.inputs t over.input within over.there over.longer
 
-module _ (bytes : List ℕ) (budget : ℕ) where
-  solve_once : (s t : Status) (k l : List ℕ) (f g : Option (List ℕ)) → SolveSays bytes budget s k f → SolveSays bytes budget t l g → s ≡ t
+order_once : (i : Problem) (o : Order) (s t : Status) (k l : List ℕ) (f g : Option (List ℕ)) → OrderSays i o s k f → OrderSays i o t l g → s ≡ t
+order_once i o s t k l f g says told =
+    one_of_two s t Done FlipBudget (AreWithin i.points i.inputs o.flips) (IsTooLong i o.flips) (AreWithin i.points i.inputs o.flips) (IsTooLong i o.flips)
+    (within_budget i o.flips) (within_budget i o.flips) (order_kind i o s k f says) (order_kind i o t l g told)
+
+module _ (bytes : List ℕ) (options : SolveOptions) where
+  solve_once : (s t : Status) (k l : List ℕ) (f g : Option (List ℕ)) → SolveSays bytes options s k f → SolveSays bytes options t l g → s ≡ t
   solve_once s t k l f g (inl (d, p, none)) (inl (e, q, empty)) = d ∙ sym e
   solve_once s t k l f g (inl (d, p, none)) (inr (i, a, says)) = absurd (valid_faultless bytes a.raw k a.valid p)
   solve_once s t k l f g (inr (i, a, says)) (inl (e, q, empty)) = absurd (valid_faultless bytes a.raw l a.valid q)
   solve_once s t k l f g (inr (i, a, says)) (inr (j, c, told)) =
-      let other = subst (λ p. OpeningSays p budget t l g) (sym (instance_once bytes i j a c)) told in
-      one_of_two s t Done FlipBudget (AreWithin i.points i.inputs budget) (IsTooLong i budget) (AreWithin i.points i.inputs budget) (IsTooLong i budget)
-      (within_budget i budget) (within_budget i budget) (opening_kind i budget s k f says) (opening_kind i budget t l g other)
+      order_once i (order_of i options) s t k l f g says (subst (λ p. OrderSays p (order_of p options) t l g) (sym (instance_once bytes i j a c)) told)
 
 module _ (held : Held) where
   -- one name holds one file
   same_file : (P : List ℕ → Type 0) (name bytes others : List ℕ) → map.get held name ≡ Some bytes → map.get held name ≡ Some others → P others → P bytes
   same_file P name bytes others e f p = subst P (sym (some_once bytes others (sym e ∙ f))) p
 
-  command_once : (c : Command) (s t : Status) (k l : List ℕ) (f g : Files) → CommandSays (Some held) c s k f → CommandSays (Some held) c t l g → s ≡ t
+  command_once : (c : Asked) (s t : Status) (k l : List ℕ) (f g : Files) → CommandSays (Some held) c s k f → CommandSays (Some held) c t l g → s ≡ t
   command_once (Check name) s t k l f g (bytes, there, says, none) (others, here, told, empty) =
       check_once bytes s t k l says (same_file (λ b. CheckSays b t l) name bytes others there here told)
   command_once (Score first second) s t k l f g (bytes, others, there, here, says, none) (bs, os, with_first, with_second, told, empty) =
       score_once bytes others s t k l says
       (same_file (λ b. ScoreSays b others t l) first bytes bs there with_first (same_file (λ o. ScoreSays bs o t l) second others os here with_second told))
-  command_once (Solve name target n) s t k l f g (bytes, text, there, says, file) (others, other, here, told, same) =
-      solve_once bytes n s t k l text other says (same_file (λ b. SolveSays b n t l other) name bytes others there here told)
+  command_once (Solve name target turns seed flips) s t k l f g (bytes, text, there, says, file) (others, other, here, told, same) =
+      let options : SolveOptions = record { turns = turns; seed = seed; flips = flips } in
+      solve_once bytes options s t k l text other says (same_file (λ b. SolveSays b options t l other) name bytes others there here told)
 
-  command_reads : (c : Command) (s : Status) (k : List ℕ) (f : Files) → CommandSays (Some held) c s k f → LacksFile (Some held) c → ⊥
+  command_reads : (c : Asked) (s : Status) (k : List ℕ) (f : Files) → CommandSays (Some held) c s k f → LacksFile (Some held) c → ⊥
   command_reads (Check name) s k f (bytes, there, says, none) lacks = held_there held name bytes there lacks
   command_reads (Score first second) s k f (bytes, others, there, here, says, none) (inl lacks) = held_there held first bytes there lacks
   command_reads (Score first second) s k f (bytes, others, there, here, says, none) (inr lacks) = held_there held second others here lacks
-  command_reads (Solve name target n) s k f (bytes, text, there, says, file) lacks = held_there held name bytes there lacks
+  command_reads (Solve name target turns seed flips) s k f (bytes, text, there, says, file) lacks = held_there held name bytes there lacks
 
 module _ (words : List (List ℕ)) (held : Held) where
   pub says_once : (s t : Status) (k l : List ℕ) (f g : Files) → Says words (Some held) s k f → Says words (Some held) t l g → s ≡ t
@@ -195,9 +187,15 @@ module _ (words : List (List ℕ)) (held : Held) where
   says_once s t k l f g (inl (unasked, d, line, none)) (inr (c, asks, says)) = absurd (unasked c asks)
   says_once s t k l f g (inr (c, asks, says)) (inl (unknown, e, told, empty)) = absurd (unknown c asks)
   says_once s t k l f g (inr (c, asks, inl says)) (inr (d, other, inl told)) =
-      command_once held c s t k l f g says (subst (λ e. CommandSays (Some held) e t l g) (sym (asks_once words c d asks other)) told)
+      command_once held c s t k l f g says (subst (λ e. CommandSays (Some held) e t l g) (sym (words_ask_once words c d asks other)) told)
   says_once s t k l f g (inr (c, asks, inl says)) (inr (d, other, inr (lacks, e, line, none))) =
-      absurd (command_reads held c s k f says (subst (LacksFile (Some held)) (sym (asks_once words c d asks other)) lacks))
+      absurd (command_reads held c s k f says (subst (LacksFile (Some held)) (sym (words_ask_once words c d asks other)) lacks))
   says_once s t k l f g (inr (c, asks, inr (lacks, e, line, none))) (inr (d, other, inl told)) =
-      absurd (command_reads held d t l g told (subst (LacksFile (Some held)) (asks_once words c d asks other) lacks))
+      absurd (command_reads held d t l g told (subst (LacksFile (Some held)) (words_ask_once words c d asks other) lacks))
   says_once s t k l f g (inr (c, asks, inr (lacks, e, line, none))) (inr (d, other, inr (lacking, h, told, empty))) = e ∙ sym h
+
+-- where no read fault was counted, a file that wasn't read is one that isn't held, and so the run says
+pub read_fault_says : (words : List (List ℕ)) (told : Held) (status : Status) (line : List ℕ) (files : Files) (before now : ℕ) → HasReadCause words (Some told) before now → ¬ Rose before now → Says words (Some told) status line files → ReadFault ≡ status
+read_fault_says words told status line files before now (inl rose) none says = absurd (none rose)
+read_fault_says words told status line files before now (inr (c, asks, lacks)) none says =
+    says_once words told ReadFault status [] line [] files (inr (c, asks, inr (lacks, refl, refl, refl))) says

@@ -1,7 +1,6 @@
 -- What the commands let a run say.
-use Rattle.std.proofs.Common.{◌≡◌, ◌≢◌, ◌∙◌, ◌⊎◌, inl, inr, sym, ap, ap₂, refl, subst, ℕ, ◌<◌, Bool, true, false, cond, List, [], ◌∷◌, map, length, take, Option, Some, None, Ok, Err, arith}
-use Rattle.std.specs.Prelude.{All, Contains, Result, IsErrOf}
-use Rattle.std.specs.List.{AllZip}
+use Rattle.std.proofs.Common.{◌≡◌, ◌≢◌, ◌∙◌, inl, inr, sym, ap, ap₂, refl, subst, ℕ, false, cond, List, [], ◌∷◌, length, take, Option, Some, None, Ok, Err, arith}
+use Rattle.std.specs.Prelude.{All, Result, IsErrOf}
 use Rattle.std.specs.FinMap as map
 use Rattle.std.specs.FinMap.{nat_cmp-IsAntisymmetric, slice_cmp-IsAntisymmetric}
 use Rattle.std.specs.declared.cmp.Ordering.{Ordering}
@@ -16,12 +15,15 @@ use Rattle.tri_check.specs.declared.raw.RawInstance.{RawInstance}
 use Rattle.tri_check.specs.Accepted.{IsAccepted}
 use Rattle.tri_check.specs.Problems.{Problem}
 use Rattle.flipcentre.specs.declared.status.Status.{Status}
-use Rattle.flipcentre.specs.declared.status.Status.TheVariants.{Done, Words, Refused, FlipBudget, Memory, ReadFault, WriteFault, No}
+use Rattle.flipcentre.specs.declared.status.Status.TheVariants.{Done, Words}
 use Rattle.host_io.specs.Store.{Held, Writes}
 use Rattle.host_io.specs.declared.fail.StoreFail.TheVariants.{Failed}
 use Rattle.host_io.specs.Sink.{Takes}
 use Rattle.host_io.specs.declared.fail.SinkFail.{SinkFail}
-use Rattle.flipcentre.specs.Words.{Command, Check, Score, Solve, Asks, IsUnasked}
+use Rattle.centre_words.specs.declared.asked.Asked.{Asked}
+use Rattle.centre_words.specs.declared.asked.Asked.TheVariants.{Check, Score, Solve}
+use Rattle.centre_words.specs.Words.{Asks, IsUnasked}
+use Rattle.flipcentre.specs.declared.solving.SolveOptions.{SolveOptions}
 use Rattle.flipcentre.specs.Lines.{valid_line, words_line}
 use Rattle.flipcentre.specs.Runs.{MayHold, CheckSays, ScoreSays, SolveSays, Files, file_under, CommandSays, CommandDoes, CommandBreaksOff, Says, AreWritten, HasWritten, AreCutOff, HasBrokenOff, Does, BreaksOff, LeavesName, KeepsOthers, IsTold, IsCutOff, TellsPart}
 
@@ -33,10 +35,10 @@ accepted_says bytes raw problem status line form spells accepted done told =
     (raw, (form, spells, accepted.valid), told ∙ ap₂ valid_line (ap (λ ps. length ps) accepted.points) (AllZip-long _ raw.inputs problem.inputs accepted.inputs))
 
 -- what a command says and writes that the words ask for, the run says and writes
-pub command_does : (words : List (List ℕ)) (old new : Option Held) (c : Command) (status : Status) (line : List ℕ) → Asks words c → CommandDoes old new c status line → Does words old new status line
+pub command_does : (words : List (List ℕ)) (old new : Option Held) (c : Asked) (status : Status) (line : List ℕ) → Asks words c → CommandDoes old new c status line → Does words old new status line
 command_does words old new c status line asks (files, says, written) = (files, inr (c, asks, inl says), written)
 
-pub command_breaks_off : (words : List (List ℕ)) (old new : Option Held) (c : Command) → Asks words c → CommandBreaksOff old new c → BreaksOff words old new
+pub command_breaks_off : (words : List (List ℕ)) (old new : Option Held) (c : Asked) → Asks words c → CommandBreaksOff old new c → BreaksOff words old new
 command_breaks_off words old new c asks (status, line, files, says, broken) = (status, line, files, inr (c, asks, inl says), broken)
 
 -- no file is written where what is held stays
@@ -57,14 +59,14 @@ pub words_does : (words : List (List ℕ)) (old new : Option Held) (status : Sta
 words_does words old new status line unasked same is told = ([], inl (unasked, is, told, refl), nothing_written old new same)
 
 -- what `solve` says and writes
-pub solve_does : (old mid new : Option Held) (name target bytes : List ℕ) (budget : ℕ) (status : Status) (line : List ℕ) (text : Option (List ℕ)) → MayHold old name bytes → mid ≡ old → SolveSays bytes budget status line text
-    → HasWritten mid new (file_under target text) → CommandDoes old new (Solve name target budget) status line
-solve_does old mid new name target bytes budget status line text held same says written =
+pub solve_does : (old mid new : Option Held) (name target bytes : List ℕ) (options : SolveOptions) (status : Status) (line : List ℕ) (text : Option (List ℕ)) → MayHold old name bytes → mid ≡ old → SolveSays bytes options status line text
+    → HasWritten mid new (file_under target text) → CommandDoes old new (Solve name target options.turns options.seed options.flips) status line
+solve_does old mid new name target bytes options status line text held same says written =
     (file_under target text, (bytes, text, held, says, refl), subst (λ before. HasWritten before new (file_under target text)) same written)
 
-pub solve_breaks_off : (old mid new : Option Held) (name target bytes : List ℕ) (budget : ℕ) (status : Status) (line : List ℕ) (text : Option (List ℕ)) → MayHold old name bytes → mid ≡ old → SolveSays bytes budget status line text
-    → HasBrokenOff mid new (file_under target text) → CommandBreaksOff old new (Solve name target budget)
-solve_breaks_off old mid new name target bytes budget status line text held same says broken =
+pub solve_breaks_off : (old mid new : Option Held) (name target bytes : List ℕ) (options : SolveOptions) (status : Status) (line : List ℕ) (text : Option (List ℕ)) → MayHold old name bytes → mid ≡ old → SolveSays bytes options status line text
+    → HasBrokenOff mid new (file_under target text) → CommandBreaksOff old new (Solve name target options.turns options.seed options.flips)
+solve_breaks_off old mid new name target bytes options status line text held same says broken =
     (status, line, file_under target text, (bytes, text, held, says, refl), subst (λ before. HasBrokenOff before new (file_under target text)) same broken)
 
 -- one file that was written, or broke off
@@ -119,11 +121,11 @@ module _ (name : List ℕ) where
   target_file target None differ = All-nil (λ file. name ≢ file.0)
   target_file target (Some text) differ = All-cons (λ file. name ≢ file.0) (target, text) [] differ (All-nil (λ file. name ≢ file.0))
 
-  command_others : (words : List (List ℕ)) (held : Option Held) (c : Command) (status : Status) (line : List ℕ) (files : Files) → LeavesName words name → Asks words c → CommandSays held c status line files → AreOthers files
+  command_others : (words : List (List ℕ)) (held : Option Held) (c : Asked) (status : Status) (line : List ℕ) (files : Files) → LeavesName words name → Asks words c → CommandSays held c status line files → AreOthers files
   command_others words held (Check i) status line files leaves asks (bytes, there, says, none) = no_file files none
   command_others words held (Score i s) status line files leaves asks (bytes, others, there, here, says, none) = no_file files none
-  command_others words held (Solve i target n) status line files leaves asks (bytes, text, there, says, is) =
-      subst AreOthers (sym is) (target_file target text (λ same. leaves (Solve i target n) asks (0, omega arith, sym same)))
+  command_others words held (Solve i target turns seed flips) status line files leaves asks (bytes, text, there, says, is) =
+      subst AreOthers (sym is) (target_file target text (λ same. leaves (Solve i target turns seed flips) asks (0, omega arith, sym same)))
 
   others_said : (words : List (List ℕ)) (held : Option Held) (status : Status) (line : List ℕ) (files : Files) → LeavesName words name → Says words held status line files → AreOthers files
   others_said words held status line files leaves (inl (unasked, is, told, none)) = no_file files none

@@ -1,5 +1,4 @@
 pub mod Lines
-pub mod Openings
+pub mod Orders
 pub mod Runs
 pub mod Statuses
-pub mod Words

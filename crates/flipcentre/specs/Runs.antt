@@ -1,5 +1,5 @@
 -- What a run of the program says of the files that its words name.
-use Rattle.std.specs.Prelude.{◌≡◌, ◌≢◌, ◌⊎◌, ℕ, ◌+◌, ◌<◌, ◌≤◌, List, [], ◌∷◌, ◌++◌, take, length, Option, Some, None, Contains, string_bytes}
+use Rattle.std.specs.Prelude.{◌≡◌, ◌≢◌, ◌⊎◌, ℕ, ◌+◌, ◌<◌, ◌≤◌, List, [], ◌∷◌, ◌++◌, take, length, Option, Some, None, Contains}
 use Rattle.std.specs.FinMap as map
 use Rattle.host_io.specs.Store.{Held, Rose, Leaves}
 use Rattle.instance_json.specs.declared.fault.Form.{Form}
@@ -22,11 +22,17 @@ use Rattle.replay.specs.declared.fault.ScoreFault.{ScoreFault}
 use Rattle.replay.specs.declared.fault.ScoreFault.TheVariants.{OutOfMemory}
 use Rattle.replay.specs.Scores.{IsScoreFault, AreAllDistinct}
 use Rattle.flipcentre.specs.declared.status.Status.{Status}
-use Rattle.flipcentre.specs.declared.status.Status.TheVariants.{Done, Words, Refused, FlipBudget, Memory, ReadFault, WriteFault, No}
-use Rattle.flipcentre.specs.Words.{Command, Check, Score, Solve, Asks, IsUnasked}
+use Rattle.flipcentre.specs.declared.status.Status.TheVariants.{Done, Words, Refused, FlipBudget, Memory, ReadFault}
+use Rattle.centre_words.specs.declared.asked.Asked.{Asked}
+use Rattle.centre_words.specs.declared.asked.Asked.TheVariants.{Check, Score, Solve}
+use Rattle.centre_words.specs.Words.{Asks, IsUnasked}
 use Rattle.flipcentre.specs.Lines.{words_line, valid_line, bad_line, form_line, total_line, solution_form_line, other_uid_line, score_fault_line, solved_line, budget_line}
 use Rattle.lawson_start.specs.Starts.{IsOverBudget}
-use Rattle.flipcentre.specs.Openings.{IsOpened}
+use Rattle.plan_law.specs.Plans.{Plan, schedules}
+use Rattle.plan_solve.specs.declared.order.Order.{Order}
+use Rattle.plan_solve.specs.Solves.{IsFoundPlan}
+use Rattle.flipcentre.specs.declared.solving.SolveOptions.{SolveOptions}
+use Rattle.flipcentre.specs.Orders.{order_of}
 
 -- ---- the files
 
@@ -97,6 +103,14 @@ NamesFileFault bytes others line =
     ⊎ (((form : SolForm) × HasForm bytes × IsFirstSolFault others form × (line ≡ solution_form_line form))
     ⊎ ((raw : RawInstance) × (bad : Bad) × solution_fault.HasForm others × Spells bytes raw × IsFirstFault raw.points raw.inputs bad × (line ≡ bad_line bad)))
 
+-- the solution that `solve` writes: the schedules of the plan that is found. It is one that `score` accepts, and what its text spells
+pub record IsFound (instance : Problem) (order : Order) (solution : Solution) : Type 0 where
+  pub plan : Plan
+  pub found : IsFoundPlan instance order plan
+  pub lists : solution.lists ≡ schedules plan
+  pub solved : IsSolved instance solution
+  pub written : SpellsSolution (text_of solution) solution
+
 -- ---- the commands
 
 -- what `check` says of the bytes of a file: that they spell a valid instance, or their first fault
@@ -111,23 +125,17 @@ ScoreSays bytes others status line =
     ((status ≡ Refused) × NamesFileFault bytes others line)
     ⊎ ((instance : Problem) × (solution : Solution) × SpellsInstance bytes instance × SpellsSolution others solution × SolutionSays instance solution status line)
 
--- the solution that `solve` finds is the opening of the instance. It is one that `score` accepts, and what its text spells
-pub record IsFound (instance : Problem) (budget : ℕ) (solution : Solution) : Type 0 where
-  pub opened : IsOpened instance budget solution.lists
-  pub solved : IsSolved instance solution
-  pub written : SpellsSolution (text_of solution) solution
-
--- what `solve` says of an instance, and the text that it writes, if one: a solution with its total, or the first input whose run is longer than the budget
-abbrev pub OpeningSays : Problem → ℕ → Status → List ℕ → Option (List ℕ) → Type 0
-OpeningSays instance budget Done line text = (solution : Solution) × IsFound instance budget solution × (line ≡ solved_line (total solution.lists) 0) × (text ≡ Some (text_of solution))
-OpeningSays instance budget FlipBudget line text = (t : ℕ) × IsOverBudget instance.points instance.inputs budget t × (line ≡ budget_line t) × (text ≡ None)
-OpeningSays instance budget _ line text = ⊥
+-- what `solve` says of an instance, and the text that it writes, if one: a solution with its total, or the first input whose run is longer than is allowed
+abbrev pub OrderSays : Problem → Order → Status → List ℕ → Option (List ℕ) → Type 0
+OrderSays instance order Done line text = (solution : Solution) × IsFound instance order solution × (line ≡ solved_line (total solution.lists) 0) × (text ≡ Some (text_of solution))
+OrderSays instance order FlipBudget line text = (t : ℕ) × IsOverBudget instance.points instance.inputs order.flips t × (line ≡ budget_line t) × (text ≡ None)
+OrderSays instance order _ line text = ⊥
 
 -- what `solve` says of the bytes of a file: their first fault, or what it says of the instance that they spell
-abbrev pub SolveSays : List ℕ → ℕ → Status → List ℕ → Option (List ℕ) → Type 0
-SolveSays bytes budget status line text =
+abbrev pub SolveSays : List ℕ → SolveOptions → Status → List ℕ → Option (List ℕ) → Type 0
+SolveSays bytes options status line text =
     ((status ≡ Refused) × NamesInstanceFault bytes line × (text ≡ None))
-    ⊎ ((instance : Problem) × SpellsInstance bytes instance × OpeningSays instance budget status line text)
+    ⊎ ((instance : Problem) × SpellsInstance bytes instance × OrderSays instance (order_of instance options) status line text)
 
 -- files that are written: their names and their bytes
 abbrev pub Files : Type 0
@@ -139,36 +147,36 @@ file_under name None = []
 file_under name (Some text) = (name, text) ∷ []
 
 -- what a command says of the files, and the files that it writes
-abbrev pub CommandSays : Option Held → Command → Status → List ℕ → Files → Type 0
+abbrev pub CommandSays : Option Held → Asked → Status → List ℕ → Files → Type 0
 CommandSays held (Check instance) status line files = (bytes : List ℕ) × MayHold held instance bytes × CheckSays bytes status line × (files ≡ [])
 CommandSays held (Score instance solution) status line files =
     (bytes : List ℕ) × (others : List ℕ) × MayHold held instance bytes × MayHold held solution others × ScoreSays bytes others status line × (files ≡ [])
-CommandSays held (Solve instance solution budget) status line files =
-    (bytes : List ℕ) × (text : Option (List ℕ)) × MayHold held instance bytes × SolveSays bytes budget status line text × (files ≡ file_under solution text)
+CommandSays held (Solve instance solution turns seed flips) status line files =
+    (bytes : List ℕ) × (text : Option (List ℕ)) × MayHold held instance bytes × SolveSays bytes (record { turns = turns; seed = seed; flips = flips }) status line text × (files ≡ file_under solution text)
 
 -- a file that the command reads isn't held
-abbrev pub LacksFile : Option Held → Command → Type 0
+abbrev pub LacksFile : Option Held → Asked → Type 0
 LacksFile held (Check instance) = IsUnheld held instance
 LacksFile held (Score instance solution) = IsUnheld held instance ⊎ IsUnheld held solution
-LacksFile held (Solve instance solution budget) = IsUnheld held instance
+LacksFile held (Solve instance solution turns seed flips) = IsUnheld held instance
 
 -- how many files the command reads or writes
-abbrev pub files_of : Command → ℕ
+abbrev pub files_of : Asked → ℕ
 files_of (Check instance) = 1
 files_of (Score instance solution) = 2
-files_of (Solve instance solution budget) = 2
+files_of (Solve instance solution turns seed flips) = 2
 
 -- the names under which the command writes
-abbrev pub written_by : Command → List (List ℕ)
+abbrev pub written_by : Asked → List (List ℕ)
 written_by (Check instance) = []
 written_by (Score instance solution) = []
-written_by (Solve instance solution budget) = solution ∷ []
+written_by (Solve instance solution turns seed flips) = solution ∷ []
 
 -- what a run says, and the files that it writes: the status and the line that the words and the files call for. Memory and writes that fail aren't theirs to say
 abbrev pub Says : List (List ℕ) → Option Held → Status → List ℕ → Files → Type 0
 Says words held status line files =
     (IsUnasked words × (status ≡ Words) × (line ≡ words_line) × (files ≡ []))
-    ⊎ ((c : Command) × Asks words c × (CommandSays held c status line files ⊎ (LacksFile held c × (status ≡ ReadFault) × (line ≡ []) × (files ≡ []))))
+    ⊎ ((c : Asked) × Asks words c × (CommandSays held c status line files ⊎ (LacksFile held c × (status ≡ ReadFault) × (line ≡ []) × (files ≡ []))))
 
 -- ---- what was written
 
@@ -191,11 +199,11 @@ HasBrokenOff None new files = new ≡ None
 HasBrokenOff (Some old) new files = (later : Held) × (new ≡ Some later) × AreCutOff old later files
 
 -- a command says this of the files, and the files that it writes were written
-abbrev pub CommandDoes : Option Held → Option Held → Command → Status → List ℕ → Type 0
+abbrev pub CommandDoes : Option Held → Option Held → Asked → Status → List ℕ → Type 0
 CommandDoes held later c status line = (files : Files) × CommandSays held c status line files × HasWritten held later files
 
 -- a command says something of the files, and the writing of its files broke off
-abbrev pub CommandBreaksOff : Option Held → Option Held → Command → Type 0
+abbrev pub CommandBreaksOff : Option Held → Option Held → Asked → Type 0
 CommandBreaksOff held later c = (status : Status) × (line : List ℕ) × (files : Files) × CommandSays held c status line files × HasBrokenOff held later files
 
 -- the run says this status and line, and its files were written
@@ -208,7 +216,7 @@ BreaksOff words held later = (status : Status) × (line : List ℕ) × (files : 
 
 -- the command, if it is one, doesn't write under the name
 abbrev pub LeavesName : List (List ℕ) → List ℕ → Type 0
-LeavesName words name = (c : Command) → Asks words c → ¬ Contains (written_by c) name
+LeavesName words name = (c : Asked) → Asks words c → ¬ Contains (written_by c) name
 
 -- where the store tells, it holds what it held under all names but those that the command writes
 abbrev pub KeepsOthers : List (List ℕ) → Option Held → Option Held → Type 0
@@ -217,7 +225,7 @@ KeepsOthers words (Some old) new = (later : Held) × (new ≡ Some later) × ((n
 
 -- the command, if it is one, writes no file
 abbrev pub IsReadOnly : List (List ℕ) → Type 0
-IsReadOnly words = (c : Command) → Asks words c → written_by c ≡ []
+IsReadOnly words = (c : Asked) → Asks words c → written_by c ≡ []
 
 -- ---- what was told
 
@@ -243,11 +251,11 @@ TellsPart words held later old new =
 
 -- a file wasn't read: reading failed, or the file isn't held
 abbrev pub HasReadCause : List (List ℕ) → Option Held → ℕ → ℕ → Type 0
-HasReadCause words held before now = Rose before now ⊎ ((c : Command) × Asks words c × LacksFile held c)
+HasReadCause words held before now = Rose before now ⊎ ((c : Asked) × Asks words c × LacksFile held c)
 
 -- the store is called at most once for each file
 abbrev pub CallsOnce : List (List ℕ) → ℕ → ℕ → Type 0
-CallsOnce words before now = (c : Command) → Asks words c → now ≤ before + files_of c
+CallsOnce words before now = (c : Asked) → Asks words c → now ≤ before + files_of c
 
 -- no fault was counted
 pub record IsFaultless (reads_before reads_now writes_before writes_now puts_before puts_now : ℕ) : Type 0 where

@@ -2,7 +2,7 @@
 ghost use Rattle.std.specs.Prelude.{◌≡◌, ◌⊎◌, length, IfOk, IsErrOf, string_bytes};
 ghost use Rattle.host_io.specs.Store.{Counts, Rose};
 ghost use Rattle.flipcentre.specs.Lines.{valid_line};
-ghost use Rattle.flipcentre.specs.Words.{Check};
+ghost use Rattle.centre_words.specs.declared.asked.Asked.TheVariants.{Check};
 ghost use Rattle.flipcentre.specs.Runs.{CheckSays, CommandDoes, LacksFile};
 
 use crate::lines::{bad_text, form_text, valid_text};

@@ -9,7 +9,6 @@ mod scoring;
 mod solution_lines;
 mod solving;
 mod status;
-mod words;
 
 use host_io::{DirStore, StdSink};
 use run::run_plain;

@@ -2,16 +2,16 @@
 ghost use Rattle.std.specs.Prelude.{◌≡◌, ◌≢◌, ◌⊎◌, IfOk, IsErrOf, string_bytes};
 ghost use Rattle.host_io.specs.Store.{Rose};
 ghost use Rattle.flipcentre.specs.Lines.{words_line};
-ghost use Rattle.flipcentre.specs.Words.{texts, IsUnasked};
+ghost use Rattle.centre_words.specs.Words.{texts, IsUnasked};
 ghost use Rattle.flipcentre.specs.Runs.{Does, BreaksOff, KeepsOthers, IsReadOnly, HasReadCause, CallsOnce, IsFaultless, Completes, Tells, TellsPart};
 
 use crate::checking::check_file;
 use crate::lines::words_text;
 use crate::reply::{Quiet, Reply, with_line};
 use crate::scoring::score_files;
-use crate::solving::solve_file;
+use crate::solving::{SolveOptions, solve_file};
 use crate::status::Status;
-use crate::words::{Asked, read_words};
+use centre_words::{Asked, WordsFault, read_words};
 use host_io::{Sink, Store, put_all};
 use std::alloc::Global;
 
@@ -39,17 +39,25 @@ fn reply_to<S: Store>(alloc: Global, words: &[String], store: &mut S) -> Result<
     ensures calls { CallsOnce (texts words.now) (S.calls store.old) (S.calls store.new) }
     ensures uncalled { IsUnasked (texts words.now) → S.calls store.new ≡ S.calls store.old }
 {
-    match read_words(words) {
-        None => words_reply(alloc),
-        Some(Asked::Check { instance }) => check_file(alloc, store, instance),
-        Some(Asked::Score { instance, solution }) => score_files(alloc, store, instance, solution),
-        Some(
+    match read_words(alloc, words) {
+        Ok(Asked::Check { instance }) => check_file(alloc, store, instance.text()),
+        Ok(Asked::Score { instance, solution }) => {
+            score_files(alloc, store, instance.text(), solution.text())
+        }
+        Ok(
             Asked::Solve {
                 instance,
                 solution,
-                budget,
+                turns,
+                seed,
+                flips,
             },
-        ) => solve_file(alloc, store, instance, solution, budget),
+        ) => {
+            let options = SolveOptions { turns, seed, flips };
+            solve_file(alloc, store, instance.text(), solution.text(), options)
+        }
+        Err(WordsFault::Words) => words_reply(alloc),
+        Err(WordsFault::OutOfMemory) => Err(Quiet::Memory),
     }
 }
 

@@ -3,7 +3,7 @@ ghost use Rattle.std.specs.Prelude.{◌≡◌, ◌≢◌, ◌⊎◌, ◌+◌, �
 ghost use Rattle.host_io.specs.Store.{Rose};
 ghost use Rattle.tri_check.specs.Problems.{IsProblem};
 ghost use Rattle.flipcentre.specs.Lines.{score_fault_line};
-ghost use Rattle.flipcentre.specs.Words.{Score};
+ghost use Rattle.centre_words.specs.declared.asked.Asked.TheVariants.{Score};
 ghost use Rattle.flipcentre.specs.Runs.{SolutionSays, RawSays, ScoreSays, CommandDoes, LacksFile};
 
 use crate::lines::{bad_text, form_text};

@@ -1,14 +1,16 @@
 // The command `solve`.
-ghost use Rattle.std.specs.Prelude.{◌≡◌, ◌⊎◌, ◌+◌, ◌≤◌, map, All, Some, None, Ok, IfOk, OnOk, IsErrOf, string_bytes};
+ghost use Rattle.std.specs.Prelude.{◌≡◌, ◌⊎◌, ◌+◌, ◌≤◌, Some, None, Ok, IfOk, OnOk, IsErrOf, string_bytes};
 ghost use Rattle.host_io.specs.Store.{Rose};
-ghost use Rattle.flip_list_law.specs.FlipLists.{IsFlipList, grouped};
 ghost use Rattle.tri_theory.specs.Rounds.{total};
 ghost use Rattle.solution_json.specs.Texts.{text_of};
 ghost use Rattle.solution_json.specs.Forms.{Spells};
-ghost use Rattle.flipcentre.specs.Lines.{solved_line};
 ghost use Rattle.tri_check.specs.Problems.{IsProblem};
-ghost use Rattle.flipcentre.specs.Words.{Solve};
-ghost use Rattle.flipcentre.specs.Runs.{OpeningSays, SolveSays, HasWritten, HasBrokenOff, file_under, CommandDoes, CommandBreaksOff, LacksFile};
+ghost use Rattle.plan_law.specs.Plans.{schedules};
+ghost use Rattle.plan_core.specs.HeldPlans.{HasSchedules};
+ghost use Rattle.centre_words.specs.declared.asked.Asked.TheVariants.{Solve};
+ghost use Rattle.flipcentre.specs.Lines.{solved_line};
+ghost use Rattle.flipcentre.specs.Orders.{order_of};
+ghost use Rattle.flipcentre.specs.Runs.{OrderSays, SolveSays, HasWritten, HasBrokenOff, file_under, CommandDoes, CommandBreaksOff, LacksFile};
 
 use crate::lines::{bad_text, form_text};
 use crate::reply::{Quiet, Reply, read_file, with_line, write_file};
@@ -17,12 +19,22 @@ use crate::status::Status;
 use edge_table::RoundsList;
 use host_io::{Bytes, Store};
 use instance_json::{InstanceFault, read_instance};
-use lawson_start::{StartFault, start};
+use lawson_start::StartFault;
+use plan_core::Plan;
+use plan_solve::{Order, solve};
 use replay::total;
-use round_pack::TrackList;
 use solution_json::{Solution, solution_text};
 use std::alloc::{AllocError, Global};
+use std::sync::Arc;
 use tri_check::{CheckFault, Instance};
+
+// How many improvers take a turn, the seed that they draw from, and how many flips the run of an input may have, if a number is given.
+#[derive(Clone, Copy, Debug, PartialEq, Eq)]
+pub(crate) struct SolveOptions {
+    pub(crate) turns: u32,
+    pub(crate) seed: u64,
+    pub(crate) flips: Option<u64>,
+}
 
 // What is said, and the text of the solution that is written, if one is.
 #[derive(Debug, Drop)]
@@ -31,30 +43,44 @@ struct Solved {
     text: Option<Bytes>,
 }
 
-// The rounds of the tracks.
-fn lists_of(alloc: Global, tracks: &TrackList) -> Result<RoundsList, AllocError>
-    ensures lists { IfOk result (λ lists. lists ≡ map (λ track. grouped track.flips) tracks.now) }
-    ensures leads { IfOk result (λ _. All (λ track. IsFlipList track.points track.start track.flips track.end) tracks.now) }
+// What the options ask of the solver.
+fn order_of(instance: &Instance, options: SolveOptions) -> Order
+    ensures { result ≡ order_of instance.now options }
 {
+    let points = u64::from(instance.count());
+    let flips = match options.flips {
+        Some(flips) => flips,
+        None => points * (points - 1) / 2,
+    };
+    Order {
+        flips,
+        turns: options.turns,
+        seed: options.seed,
+    }
+}
+
+// The rounds of the lists of a plan.
+fn lists_of(alloc: Global, plan: &Plan) -> Result<RoundsList, AllocError>
+    ensures { IfOk result (λ lists. lists ≡ schedules plan.now.plan) }
+{
+    let _ = plan.total();
     let mut lists = RoundsList::make(alloc);
-    for t in 0..tracks.len() {
-        lists.push(tracks.at(t).grouped()?)?;
+    let count = plan.inst().inputs();
+    for t in 0..count {
+        lists.push(plan.schedule(t)?)?;
     }
     Ok(lists)
 }
 
-// The solution that the tracks are.
-fn solution_of(
-    alloc: Global,
-    instance: &Instance,
-    tracks: &TrackList,
-) -> Result<Solution, AllocError>
-    ensures uid { IfOk result (λ s. s.uid ≡ instance.now.uid) }
-    ensures lists { IfOk result (λ s. s.lists ≡ map (λ track. grouped track.flips) tracks.now) }
-    ensures leads { IfOk result (λ _. All (λ track. IsFlipList track.points track.start track.flips track.end) tracks.now) }
+// The solution that a plan is.
+fn solution_of(alloc: Global, plan: &Plan) -> Result<Solution, AllocError>
+    ensures uid { IfOk result (λ s. s.uid ≡ plan.now.problem.uid) }
+    ensures lists { IfOk result (λ s. s.lists ≡ schedules plan.now.plan) }
+    ensures schedules { HasSchedules plan.now.problem plan.now.plan }
 {
-    let uid = instance.uid().copy()?;
-    let lists = lists_of(alloc, tracks)?;
+    let _ = plan.total();
+    let uid = plan.inst().uid().copy()?;
+    let lists = lists_of(alloc, plan)?;
     Ok(Solution { uid, lists })
 }
 
@@ -89,23 +115,28 @@ fn without_text(status: Status, line: Result<String, AllocError>) -> Result<Solv
 }
 
 // What `solve` says of an instance.
-fn solve_instance(alloc: Global, instance: &Instance, budget: u64) -> Result<Solved, Quiet>
-    ensures says { IfOk result (λ s. OpeningSays instance.now budget s.reply.status (string_bytes s.reply.line) s.text) }
-    ensures problem { IsProblem instance.now.points instance.now.inputs }
+fn solve_instance(
+    alloc: Global,
+    instance: Arc<Instance>,
+    options: SolveOptions,
+) -> Result<Solved, Quiet>
+    ensures says { IfOk result (λ s. OrderSays instance.value (order_of instance.value options) s.reply.status (string_bytes s.reply.line) s.text) }
+    ensures problem { IsProblem instance.value.points instance.value.inputs }
     ensures read { IsErrOf result Quiet.ReadFault → ⊥ }
     ensures write { IsErrOf result Quiet.WriteFault → ⊥ }
 {
     let _ = instance.count();
-    match start(alloc, instance, budget) {
-        Ok(opening) => found(alloc, &solution_of(alloc, instance, &opening.tracks)?),
+    let order = order_of(&instance, options);
+    match solve(alloc, instance, order) {
+        Ok(plan) => found(alloc, &solution_of(alloc, &plan)?),
         Err(StartFault::FlipBudget(t)) => without_text(Status::FlipBudget, budget_text(alloc, t)),
         Err(StartFault::OutOfMemory) => Err(Quiet::Memory),
     }
 }
 
 // What `solve` says of the bytes of a file.
-fn solve_bytes(alloc: Global, bytes: &[u8], budget: u64) -> Result<Solved, Quiet>
-    ensures says { IfOk result (λ s. SolveSays bytes.now budget s.reply.status (string_bytes s.reply.line) s.text) }
+fn solve_bytes(alloc: Global, bytes: &[u8], options: SolveOptions) -> Result<Solved, Quiet>
+    ensures says { IfOk result (λ s. SolveSays bytes.now options s.reply.status (string_bytes s.reply.line) s.text) }
     ensures read { IsErrOf result Quiet.ReadFault → ⊥ }
     ensures write { IsErrOf result Quiet.WriteFault → ⊥ }
 {
@@ -117,7 +148,7 @@ fn solve_bytes(alloc: Global, bytes: &[u8], budget: u64) -> Result<Solved, Quiet
         Err(InstanceFault::OutOfMemory) => return Err(Quiet::Memory),
     };
     match Instance::check(alloc, raw) {
-        Ok(instance) => solve_instance(alloc, &instance, budget),
+        Ok(instance) => solve_instance(alloc, instance, options),
         Err(CheckFault::Bad(bad)) => without_text(Status::Refused, bad_text(alloc, bad)),
         Err(CheckFault::OutOfMemory) => Err(Quiet::Memory),
     }
@@ -145,19 +176,19 @@ pub(crate) fn solve_file<S: Store>(
     store: &mut S,
     instance: &str,
     solution: &str,
-    budget: u64,
+    options: SolveOptions,
 ) -> Result<Reply, Quiet>
-    ensures does { IfOk result (λ r. CommandDoes (S.held store.old) (S.held store.new) (Solve instance.now solution.now budget) r.status (string_bytes r.line)) }
+    ensures does { IfOk result (λ r. CommandDoes (S.held store.old) (S.held store.new) (Solve instance.now solution.now options.turns options.seed options.flips) r.status (string_bytes r.line)) }
     ensures cause { IsErrOf result Quiet.ReadFault → Rose (S.read_faults store.old) (S.read_faults store.new)
-        ⊎ LacksFile (S.held store.old) (Solve instance.now solution.now budget) }
+        ⊎ LacksFile (S.held store.old) (Solve instance.now solution.now options.turns options.seed options.flips) }
     ensures unread { IsErrOf result Quiet.ReadFault → S.held store.new ≡ S.held store.old }
     ensures memory { IsErrOf result Quiet.Memory → S.held store.new ≡ S.held store.old }
     ensures unwritten { IsErrOf result Quiet.WriteFault → Rose (S.write_faults store.old) (S.write_faults store.new) }
-    ensures broken { IsErrOf result Quiet.WriteFault → CommandBreaksOff (S.held store.old) (S.held store.new) (Solve instance.now solution.now budget) }
+    ensures broken { IsErrOf result Quiet.WriteFault → CommandBreaksOff (S.held store.old) (S.held store.new) (Solve instance.now solution.now options.turns options.seed options.flips) }
     ensures calls { S.calls store.new ≤ S.calls store.old + 2 }
 {
     let bytes = read_file(alloc, store, instance)?;
-    let solved = solve_bytes(alloc, bytes.as_slice(), budget)?;
+    let solved = solve_bytes(alloc, bytes.as_slice(), options)?;
     write_text(store, solution, &solved.text)?;
     Ok(solved.reply)
 }

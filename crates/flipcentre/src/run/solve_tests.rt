@@ -60,11 +60,16 @@ struct Outcome {
     score: String,
 }
 
-fn solve_outcome(alloc: Global, instance: &str, budget: &str) -> Result<Outcome, Fail> {
+fn solve_outcome(
+    alloc: Global,
+    instance: &str,
+    option: &str,
+    value: &str,
+) -> Result<Outcome, Fail> {
     let mut store = MemStore::make(alloc);
     store.hold("i.json", instance.as_bytes())?;
     let mut out = line_sink(alloc)?;
-    let words = ["solve", "i.json", "s.json", budget];
+    let words = ["solve", "i.json", option, value, "s.json"];
     let status = run_in(alloc, &mut store, &mut out, &words)?;
     let line = text_of(alloc, out.bytes())?;
     let written = text_of(alloc, store.look("s.json").unwrap_or(&[]))?;
@@ -84,7 +89,7 @@ fn score_line(alloc: Global, store: &mut MemStore) -> Result<String, Fail> {
 }
 
 #[test]
-fn openings_are_written_and_scored(rt: HostRuntime) -> Result<(), Fail> {
+fn openings_are_settled_and_written(rt: HostRuntime) -> Result<(), Fail> {
     let rows = [
         (
             SQUARE,
@@ -100,9 +105,9 @@ fn openings_are_written_and_scored(rt: HostRuntime) -> Result<(), Fail> {
         ),
         (
             SECOND_ALONE,
-            "total 1 bound 0\n",
-            r#"{"content_type":"CGSHOP2026_Solution","flips":[[[[1,3]]]],"instance_uid":"Q","meta":{}}"#,
-            "total 1\n",
+            "total 0 bound 0\n",
+            r#"{"content_type":"CGSHOP2026_Solution","flips":[[]],"instance_uid":"Q","meta":{}}"#,
+            "total 0\n",
         ),
         (
             PENTAGON,
@@ -124,12 +129,20 @@ fn openings_are_written_and_scored(rt: HostRuntime) -> Result<(), Fail> {
         ),
     ];
     for (instance, line, written, score) in rows {
-        let outcome = solve_outcome(rt.alloc(), instance, "1000")?;
+        let outcome = solve_outcome(rt.alloc(), instance, "--turns", "0")?;
         assert_eq!(rt; outcome.line.as_str(), line, "{instance}");
         assert_eq!(rt; outcome.written.as_str(), written);
         assert_eq!(rt; outcome.score.as_str(), score);
         assert_eq!(rt; outcome.status, Status::Done);
     }
+    Ok(())
+}
+
+#[test]
+fn turns_lower_the_total(rt: HostRuntime) -> Result<(), Fail> {
+    let outcome = solve_outcome(rt.alloc(), OCTAGON, "--seed", "1")?;
+    assert_eq!(rt; outcome.line.as_str(), "total 4 bound 0\n");
+    assert_eq!(rt; outcome.score.as_str(), "total 4\n");
     Ok(())
 }
 
@@ -143,8 +156,8 @@ fn budgets_that_are_too_small_are_named(rt: HostRuntime) -> Result<(), Fail> {
         (HEXAGON, "3", Status::Done, "total 3 bound 0\n"),
         ("[]", "3", Status::Refused, "refused instance NotObject\n"),
     ];
-    for (instance, budget, status, line) in rows {
-        let outcome = solve_outcome(rt.alloc(), instance, budget)?;
+    for (instance, flips, status, line) in rows {
+        let outcome = solve_outcome(rt.alloc(), instance, "--flips", flips)?;
         assert_eq!(rt; outcome.line.as_str(), line, "{instance}");
         assert_eq!(rt; outcome.status, status);
         assert!(rt; outcome.written.is_empty() == (status != Status::Done));
@@ -154,18 +167,26 @@ fn budgets_that_are_too_small_are_named(rt: HostRuntime) -> Result<(), Fail> {
 
 #[test]
 fn words_that_ask_for_nothing_are_refused(rt: HostRuntime) -> Result<(), Fail> {
-    let rows: [&[&str]; 11] = [
+    let rows: [&[&str]; 13] = [
         &["solve"],
-        &["solve", "i.json", "s.json"],
-        &["solve", "i.json", "i.json", "5"],
-        &["solve", "", "s.json", "5"],
-        &["solve", "i.json", "-s", "5"],
-        &["solve", "i.json", "s.json", "x"],
-        &["solve", "i.json", "s.json", ""],
-        &["solve", "i.json", "s.json", "+5"],
-        &["solve", "i.json", "s.json", "1000000001"],
-        &["solve", "i.json", "s.json", "000000000000000000005"],
-        &["solve", "i.json", "s.json", "5", "5"],
+        &["solve", "i.json"],
+        &["solve", "i.json", "i.json"],
+        &["solve", "", "s.json"],
+        &["solve", "i.json", "-s"],
+        &["solve", "i.json", "s.json", "5"],
+        &["solve", "i.json", "s.json", "--turns", "x"],
+        &["solve", "i.json", "s.json", "--turns=1"],
+        &["solve", "i.json", "s.json", "--turns", "1", "--turns", "1"],
+        &["solve", "i.json", "s.json", "--turns", "1000001"],
+        &["solve", "i.json", "s.json", "--flips", "1000000001"],
+        &[
+            "solve",
+            "i.json",
+            "s.json",
+            "--seed",
+            "000000000000000000005",
+        ],
+        &["solve", "i.json", "s.json", "--seed"],
     ];
     for words in rows {
         let mut store = MemStore::make(rt.alloc());
@@ -191,12 +212,7 @@ fn failing_outcome(
     if stall {
         out.stall_at(0)?;
     }
-    let status = run_in(
-        alloc,
-        &mut store,
-        &mut out,
-        &["solve", "i.json", "s.json", "5"],
-    )?;
+    let status = run_in(alloc, &mut store, &mut out, &["solve", "i.json", "s.json"])?;
     let written = text_of(alloc, store.look("s.json").unwrap_or(&[]))?;
     Ok((status, written, text_of(alloc, out.bytes())?))
 }

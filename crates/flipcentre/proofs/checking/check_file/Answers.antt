@@ -1,6 +1,6 @@
 use Rattle.std.proofs.Common.{subst, string_bytes}
 use Rattle.std.proofs.lemmas.Result.{IfOk-weaker}
-use Rattle.flipcentre.specs.Words.{Check}
+use Rattle.centre_words.specs.declared.asked.Asked.TheVariants.{Check}
 use Rattle.flipcentre.specs.Runs.{CheckSays, CommandDoes}
 use Rattle.flipcentre.proofs.Saying.{check_does}
 use Rattle.flipcentre.proofs.checking.check_file.Goals as goal

@@ -1,47 +1,60 @@
-use Rattle.std.proofs.Common.{refl, subst, string_bytes}
+use Rattle.std.proofs.Common.{refl, sym, ap, subst, string_bytes, Err}
 use Rattle.std.proofs.lemmas.Result.{IfOk-weaker}
-use Rattle.flipcentre.specs.Words.{Check, Score, Solve, texts, Asks, command_of}
+use Rattle.centre_words.specs.declared.asked.Asked.TheVariants.{Check, Score, Solve}
+use Rattle.centre_words.specs.Words.{texts, Asks}
 use Rattle.flipcentre.specs.Runs.{Does}
 use Rattle.flipcentre.proofs.Saying.{command_does, command_breaks_off, words_does}
 use Rattle.flipcentre.proofs.run.reply_to.Goals as goal
 
-pub returns-in-None-clause-does : goal.returns-in-None-clause-does
-returns-in-None-clause-does g c =
+pub returns-in-Ok-Check-clause-does : goal.returns-in-Ok-Check-clause-does
+returns-in-Ok-Check-clause-does g c =
+    let words = texts c.args.words.now in
+    let old = g.S.Store.held c.args.store.now in
+    let new = g.S.Store.held c.check_file.new.store in
+    let name = c.text.result.now in
+    let asks = subst (λ n. Asks words (Check n)) (sym c.text.ensures.bytes) (subst (λ a. Asks words a) c.in-Ok-Check.field-0-is c.in-Ok-Check.ensures.asked) in
+    IfOk-weaker c.check_file.result _ (λ r. Does words old new r.status (string_bytes r.line))
+    (λ r does. command_does words old new (Check name) r.status (string_bytes r.line) asks does) c.check_file.ensures.does
+
+pub returns-in-Ok-Score-clause-does : goal.returns-in-Ok-Score-clause-does
+returns-in-Ok-Score-clause-does g c =
+    let words = texts c.args.words.now in
+    let old = g.S.Store.held c.args.store.now in
+    let new = g.S.Store.held c.score_files.new.store in
+    let first = c.text-in-Ok-Score.result.now in
+    let second = c.text-in-Ok-Score-2.result.now in
+    let asks = subst (λ n. Asks words (Score first n)) (sym c.text-in-Ok-Score-2.ensures.bytes)
+    (subst (λ n. Asks words (Score n c.in-Ok-Score.solution)) (sym c.text-in-Ok-Score.ensures.bytes) (subst (λ a. Asks words a) c.in-Ok-Score.field-0-is c.in-Ok-Score.ensures.asked)) in
+    IfOk-weaker c.score_files.result _ (λ r. Does words old new r.status (string_bytes r.line))
+    (λ r does. command_does words old new (Score first second) r.status (string_bytes r.line) asks does) c.score_files.ensures.does
+
+pub returns-in-Ok-Solve-clause-does : goal.returns-in-Ok-Solve-clause-does
+returns-in-Ok-Solve-clause-does g c =
+    let words = texts c.args.words.now in
+    let old = g.S.Store.held c.args.store.now in
+    let new = g.S.Store.held c.solve_file.new.store in
+    let o = c.in-Ok-Solve in
+    let first = c.text-in-Ok-Solve.result.now in
+    let second = c.text-in-Ok-Solve-2.result.now in
+    let asks = subst (λ n. Asks words (Solve first n o.turns o.seed o.flips)) (sym c.text-in-Ok-Solve-2.ensures.bytes)
+    (subst (λ n. Asks words (Solve n o.solution o.turns o.seed o.flips)) (sym c.text-in-Ok-Solve.ensures.bytes) (subst (λ a. Asks words a) o.field-0-is o.ensures.asked)) in
+    IfOk-weaker c.solve_file.result _ (λ r. Does words old new r.status (string_bytes r.line))
+    (λ r does. command_does words old new (Solve first second o.turns o.seed o.flips) r.status (string_bytes r.line) asks does) c.solve_file.ensures.does
+
+pub returns-in-Ok-Solve-clause-broken : goal.returns-in-Ok-Solve-clause-broken
+returns-in-Ok-Solve-clause-broken g c = λ failed.
+    let words = texts c.args.words.now in
+    let o = c.in-Ok-Solve in
+    let first = c.text-in-Ok-Solve.result.now in
+    let second = c.text-in-Ok-Solve-2.result.now in
+    let asks = subst (λ n. Asks words (Solve first n o.turns o.seed o.flips)) (sym c.text-in-Ok-Solve-2.ensures.bytes)
+    (subst (λ n. Asks words (Solve n o.solution o.turns o.seed o.flips)) (sym c.text-in-Ok-Solve.ensures.bytes) (subst (λ a. Asks words a) o.field-0-is o.ensures.asked)) in
+    command_breaks_off words (g.S.Store.held c.args.store.now) (g.S.Store.held c.solve_file.new.store) (Solve first second o.turns o.seed o.flips) asks (c.solve_file.ensures.broken failed)
+
+pub returns-in-Err-Words-clause-does : goal.returns-in-Err-Words-clause-does
+returns-in-Err-Words-clause-does g c =
     let words = texts c.args.words.now in
     let held = g.S.Store.held c.args.store.now in
+    let unasked = c.in-Err-Words.ensures.words (ap (λ e. Err e) c.in-Err-Words.field-0-is) in
     IfOk-weaker c.words_reply.result _ (λ r. Does words held held r.status (string_bytes r.line))
-    (λ r is. words_does words held held r.status (string_bytes r.line) c.in-None.ensures refl is.0 is.1) c.words_reply.ensures.says
-
-pub returns-in-Some-Check-clause-does : goal.returns-in-Some-Check-clause-does
-returns-in-Some-Check-clause-does g c =
-    let words = texts c.args.words.now in
-    let old = g.S.Store.held c.args.store.now in
-    let asked = Check c.in-Some-Check.instance.now in
-    let asks = subst (λ a. Asks words (command_of a)) c.in-Some-Check.field-0-is c.in-Some-Check.ensures in
-    IfOk-weaker c.check_file.result _ (λ r. Does words old (g.S.Store.held c.check_file.new.store) r.status (string_bytes r.line))
-    (λ r does. command_does words old (g.S.Store.held c.check_file.new.store) asked r.status (string_bytes r.line) asks does) c.check_file.ensures.does
-
-pub returns-in-Some-Score-clause-does : goal.returns-in-Some-Score-clause-does
-returns-in-Some-Score-clause-does g c =
-    let words = texts c.args.words.now in
-    let old = g.S.Store.held c.args.store.now in
-    let asked = Score c.in-Some-Score.instance.now c.in-Some-Score.solution.now in
-    let asks = subst (λ a. Asks words (command_of a)) c.in-Some-Score.field-0-is c.in-Some-Score.ensures in
-    IfOk-weaker c.score_files.result _ (λ r. Does words old (g.S.Store.held c.score_files.new.store) r.status (string_bytes r.line))
-    (λ r does. command_does words old (g.S.Store.held c.score_files.new.store) asked r.status (string_bytes r.line) asks does) c.score_files.ensures.does
-
-pub returns-in-Some-Solve-clause-does : goal.returns-in-Some-Solve-clause-does
-returns-in-Some-Solve-clause-does g c =
-    let words = texts c.args.words.now in
-    let old = g.S.Store.held c.args.store.now in
-    let asked = Solve c.in-Some-Solve.instance.now c.in-Some-Solve.solution.now c.in-Some-Solve.budget in
-    let asks = subst (λ a. Asks words (command_of a)) c.in-Some-Solve.field-0-is c.in-Some-Solve.ensures in
-    IfOk-weaker c.solve_file.result _ (λ r. Does words old (g.S.Store.held c.solve_file.new.store) r.status (string_bytes r.line))
-    (λ r does. command_does words old (g.S.Store.held c.solve_file.new.store) asked r.status (string_bytes r.line) asks does) c.solve_file.ensures.does
-
-pub returns-in-Some-Solve-clause-broken : goal.returns-in-Some-Solve-clause-broken
-returns-in-Some-Solve-clause-broken g c = λ failed.
-    let words = texts c.args.words.now in
-    let asked = Solve c.in-Some-Solve.instance.now c.in-Some-Solve.solution.now c.in-Some-Solve.budget in
-    let asks = subst (λ a. Asks words (command_of a)) c.in-Some-Solve.field-0-is c.in-Some-Solve.ensures in
-    command_breaks_off words (g.S.Store.held c.args.store.now) (g.S.Store.held c.solve_file.new.store) asked asks (c.solve_file.ensures.broken failed)
+    (λ r is. words_does words held held r.status (string_bytes r.line) unasked refl is.0 is.1) c.words_reply.ensures.says

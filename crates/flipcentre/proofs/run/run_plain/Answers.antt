@@ -1,14 +1,21 @@
-use Rattle.std.proofs.Common.{◌≡◌, ℕ, List, inl, ap, subst, string_bytes, Err}
-use Rattle.flipcentre.specs.declared.status.Status.{Status}
-use Rattle.flipcentre.specs.Words.{texts}
-use Rattle.flipcentre.specs.Runs.{Says, Does, IsTold, IsCutOff}
-use Rattle.flipcentre.proofs.Once.{says_once}
+use Rattle.std.proofs.Common.{◌≡◌, inl, ap, subst, string_bytes, Err}
+use Rattle.centre_words.specs.Words.{texts}
+use Rattle.flipcentre.specs.Runs.{Says, Does, HasReadCause, IsTold, IsCutOff}
+use Rattle.flipcentre.proofs.Once.{says_once, read_fault_says}
 use Rattle.flipcentre.proofs.Saying.{same_keeps, done_keeps, broken_off_keeps, told_whole, cut_off, cut_part}
 use Rattle.flipcentre.proofs.run.run_plain.Goals as goal
 
 pub returns-in-Err-Memory-clause-kept : goal.returns-in-Err-Memory-clause-kept
 returns-in-Err-Memory-clause-kept g c =
     same_keeps (texts c.args.words.now) (g.S.Store.held c.args.store.now) (g.S.Store.held c.reply_to.new.store) (c.in-Err-Memory.ensures.memory (ap (λ e. Err e) c.in-Err-Memory.field-0-is))
+
+pub returns-in-Err-ReadFault-clause-complete : goal.returns-in-Err-ReadFault-clause-complete
+returns-in-Err-ReadFault-clause-complete g c = λ told status line files is says faultless.
+    let words = texts c.args.words.now in
+    let before = g.S.Store.read_faults c.args.store.now in
+    let now = g.S.Store.read_faults c.reply_to.new.store in
+    let cause = c.in-Err-ReadFault.ensures.cause (ap (λ e. Err e) c.in-Err-ReadFault.field-0-is) in
+    inl (read_fault_says words told status line files before now (subst (λ held. HasReadCause words held before now) is cause) faultless.reads says)
 
 pub returns-in-Err-ReadFault-clause-kept : goal.returns-in-Err-ReadFault-clause-kept
 returns-in-Err-ReadFault-clause-kept g c =

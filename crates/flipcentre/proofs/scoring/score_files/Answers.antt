@@ -1,6 +1,6 @@
 use Rattle.std.proofs.Common.{◌∙◌, subst, string_bytes}
 use Rattle.std.proofs.lemmas.Result.{IfOk-weaker}
-use Rattle.flipcentre.specs.Words.{Score}
+use Rattle.centre_words.specs.declared.asked.Asked.TheVariants.{Score}
 use Rattle.flipcentre.specs.Runs.{MayHold, ScoreSays, CommandDoes}
 use Rattle.flipcentre.proofs.Saying.{score_does}
 use Rattle.flipcentre.proofs.scoring.score_files.Goals as goal

@@ -1,4 +1,4 @@
-use Rattle.std.proofs.Common.{◌≡◌, ◌∙◌, refl, [], ◌∷◌, append_assoc, codes, decimal, string_bytes}
+use Rattle.std.proofs.Common.{◌≡◌, ◌∙◌, refl, [], ◌∷◌, append_assoc, string_bytes}
 use Rattle.std.proofs.lemmas.Result.{IfOk-weaker}
 use Rattle.flipcentre.specs.Lines.{line, solution_refused}
 use Rattle.flipcentre.proofs.solution_lines.word_text.Goals as goal

@@ -10,8 +10,8 @@ pub returns-clause-does : goal.returns-clause-does
 returns-clause-does g c =
     let solved = c.in_ok-solved.solved in
     let line = string_bytes solved.reply.line in
-    solve_does (g.S.Store.held c.args.store.now) _ _ c.args.instance.now c.args.solution.now c.in_ok-bytes.bytes c.args.budget solved.reply.status line solved.text c.in_ok-bytes.ensures.held c.in_ok-bytes.ensures.kept
-    (subst (λ bytes. SolveSays bytes c.args.budget solved.reply.status line solved.text) c.as_slice.ensures c.in_ok-solved.ensures.says) c.in_ok-write_text.ensures.written
+    solve_does (g.S.Store.held c.args.store.now) _ _ c.args.instance.now c.args.solution.now c.in_ok-bytes.bytes c.args.options solved.reply.status line solved.text c.in_ok-bytes.ensures.held c.in_ok-bytes.ensures.kept
+    (subst (λ bytes. SolveSays bytes c.args.options solved.reply.status line solved.text) c.as_slice.ensures c.in_ok-solved.ensures.says) c.in_ok-write_text.ensures.written
 
 pub returns-in_err-write_text-clause-broken : goal.returns-in_err-write_text-clause-broken
 returns-in_err-write_text-clause-broken g c = λ is.
@@ -19,5 +19,5 @@ returns-in_err-write_text-clause-broken g c = λ is.
     let line = string_bytes solved.reply.line in
     let p = err_from_is_err_and c.from_residual-in_err-write_text.result c.from_residual-in_err-write_text.ensures.1 in
     let failed : IsErrOf {T = Unit {0}} (Err c.in_err-write_text.field-0.0) WriteFault = subst (λ e. IsErrOf {T = Unit {0}} (Err e) WriteFault) p.2 (is_error c.from_residual-in_err-write_text.result p.0 WriteFault p.1 is) in
-    solve_breaks_off (g.S.Store.held c.args.store.now) _ _ c.args.instance.now c.args.solution.now c.in_ok-bytes.bytes c.args.budget solved.reply.status line solved.text c.in_ok-bytes.ensures.held c.in_ok-bytes.ensures.kept
-    (subst (λ bytes. SolveSays bytes c.args.budget solved.reply.status line solved.text) c.as_slice.ensures c.in_ok-solved.ensures.says) (c.in_err-write_text.ensures.broken failed)
+    solve_breaks_off (g.S.Store.held c.args.store.now) _ _ c.args.instance.now c.args.solution.now c.in_ok-bytes.bytes c.args.options solved.reply.status line solved.text c.in_ok-bytes.ensures.held c.in_ok-bytes.ensures.kept
+    (subst (λ bytes. SolveSays bytes c.args.options solved.reply.status line solved.text) c.as_slice.ensures c.in_ok-solved.ensures.says) (c.in_err-write_text.ensures.broken failed)

@@ -1,10 +1,10 @@
 #!/usr/bin/env python3
-"""How long the shipped program takes for an opening: `bench/openings.py [POINTS ..] [--inputs M] [--runs R]`.
+"""What the shipped program's turns are worth, and what they cost: `bench/solving.py [POINTS ..] [--inputs M] [--turns N]`.
 
 For each number of points it writes an instance of random points, always the same ones, with M inputs. Each input joins
 the points in the order of some direction: a point is joined to all that it sees of the hull of those before it.
-It runs `./flipcentre solve` on it and prints the total, the number of flips in the solution, and the seconds of
-processor time that `solve` takes beyond `check` on the same file. Of R runs the fastest counts. Nothing is checked here
+It runs `./flipcentre solve` on it without turns, which settles the first centre, and with N of them. It prints both
+totals, and the seconds of processor time that each run takes beyond `check` on the same file. Nothing is checked here
 but that `score` prints the same total."""
 
 import argparse
@@ -72,46 +72,46 @@ def processor_time():
     return used.ru_utime + used.ru_stime
 
 
-def run(folder, words, runs):
-    """What the program prints, and the least time of some runs."""
-    least = None
-    for _ in range(runs):
-        begin = processor_time()
-        done = subprocess.run([PROGRAM, *words], cwd=folder, capture_output=True, text=True, check=False)
-        took = processor_time() - begin
-        if done.returncode != 0:
-            raise SystemExit(f"{words}: status {done.returncode}, printed {done.stdout!r}")
-        least = took if least is None else min(least, took)
-    return done.stdout.split(), least
+def run(folder, words):
+    """What the program prints, and the time that it takes."""
+    begin = processor_time()
+    done = subprocess.run([PROGRAM, *words], cwd=folder, capture_output=True, text=True, check=False)
+    took = processor_time() - begin
+    if done.returncode != 0:
+        raise SystemExit(f"{words}: status {done.returncode}, printed {done.stdout!r}")
+    return done.stdout.split(), took
 
 
-def measure(count, inputs, runs):
+def solve(folder, turns):
+    """The total with so many turns, and the time that it takes."""
+    line, took = run(folder, ["solve", "instance.json", "solution.json", "--turns", str(turns)])
+    score, _ = run(folder, ["score", "instance.json", "solution.json"])
+    if score[1] != line[1]:
+        raise SystemExit(f"solve says {line}, and score says {score}")
+    return line[1], took
+
+
+def measure(count, inputs, turns):
     with tempfile.TemporaryDirectory() as folder:
         with open(os.path.join(folder, "instance.json"), "w", encoding="utf-8") as file:
             json.dump(instance(count, inputs), file, separators=(",", ":"))
-        _, checking = run(folder, ["check", "instance.json"], runs)
-        line, solving = run(folder, ["solve", "instance.json", "solution.json", "1000000000"], runs)
-        with open(os.path.join(folder, "solution.json"), encoding="utf-8") as file:
-            lists = json.load(file)["flips"]
-        flips = sum(len(single) for rounds in lists for single in rounds)
-        score, _ = run(folder, ["score", "instance.json", "solution.json"], 1)
-        if score[1] != line[1]:
-            raise SystemExit(f"solve says {line}, and score says {score}")
-    rate = flips / max(solving - checking, 0.001)
-    print(f"{count} points, {inputs} inputs: total {line[1]}, {flips} flips, check {checking:.2f} s, solve {solving - checking:.2f} s more ({rate:,.0f} flips in a second)")
+        _, checking = run(folder, ["check", "instance.json"])
+        before, settling = solve(folder, 0)
+        after, improving = solve(folder, turns)
+    print(f"{count} points, {inputs} inputs: check {checking:.2f} s; without turns total {before} in {settling - checking:.2f} s more, with {turns} turns total {after} in {improving - checking:.2f} s more", flush=True)
 
 
 def main():
     parser = argparse.ArgumentParser(description=__doc__, formatter_class=argparse.RawDescriptionHelpFormatter)
-    parser.add_argument("points", nargs="*", type=int, default=[100, 1000, 10000])
-    parser.add_argument("--inputs", type=int, default=2)
-    parser.add_argument("--runs", type=int, default=3)
+    parser.add_argument("points", nargs="*", type=int, default=[30, 100, 300])
+    parser.add_argument("--inputs", type=int, default=5)
+    parser.add_argument("--turns", type=int, default=64)
     words = parser.parse_args()
     # The first call builds the program where that hasn't been done.
     subprocess.run([PROGRAM], stdout=subprocess.DEVNULL, check=False)
     print(f"load average {os.getloadavg()[0]:.1f} on {os.cpu_count()} processors")
     for count in words.points:
-        measure(count, words.inputs, words.runs)
+        measure(count, words.inputs, words.turns)
 
 
 if __name__ == "__main__":

@@ -1,0 +1,50 @@
+-- The runs of a start are a plan, and the plan that settles from it is the one that is found.
+use Rattle.std.proofs.Common.{◌≡◌, ◌∙◌, sym, ap, refl, subst, ℕ, ◌≤◌, List, [], ◌∷◌, map}
+use Rattle.std.specs.List.{AllZip}
+use Rattle.geo_orient.specs.declared.Point.{Point}
+use Rattle.edge_table.specs.declared.edge.Edge.{Edge}
+use Rattle.tri_check.specs.Problems.{Problem}
+use Rattle.flip_list_law.specs.FlipLists.{flipped_edges}
+use Rattle.round_pack.specs.Tracks.{FlipTrack}
+use Rattle.lawson_law.specs.LawsonRuns.{IsOpening}
+use Rattle.lawson_start.specs.declared.centre.Start.{Start}
+use Rattle.lawson_start.specs.Starts.{IsStart}
+use Rattle.plan_law.specs.Plans.{Plan, IsPlanOf, plan_total, IsSettled, Settles}
+use Rattle.plan_law.specs.Improving.{improved}
+use Rattle.plan_moves.specs.Improved.{words_of}
+use Rattle.plan_core.specs.HeldPlans.{LeadsTo, lists_of}
+use Rattle.plan_moves.proofs.Openings.{tracks_lead}
+use Rattle.plan_solve.specs.declared.order.Order.{Order}
+use Rattle.plan_solve.specs.Solves.{IsOpeningPlan, IsFoundPlan}
+
+pub start_leads : (problem : Problem) (budget : ℕ) (start : Start) → IsStart problem.points problem.inputs budget start → AllZip (LeadsTo problem.points start.centre.edges) problem.inputs start.tracks
+start_leads problem budget start is = tracks_lead problem.points start.centre.edges problem.inputs start.tracks is.tracks
+
+edges_of_tracks : (tracks : List FlipTrack) → map (λ (track : FlipTrack). flipped_edges track.flips) tracks ≡ map flipped_edges (lists_of tracks)
+edges_of_tracks [] = refl
+edges_of_tracks (track ∷ tracks) = ap (λ rest. flipped_edges track.flips ∷ rest) (edges_of_tracks tracks)
+
+pub start_opens : (problem : Problem) (budget : ℕ) (start : Start) (plan : Plan) → IsStart problem.points problem.inputs budget start → IsPlanOf problem.points problem.inputs plan → plan.centre ≡ start.centre.edges → plan.lists ≡ lists_of start.tracks
+    → IsOpeningPlan problem budget plan
+start_opens problem budget start plan is is_plan centre lists = record {
+  is_plan = is_plan;
+  runs = subst (λ c. IsOpening problem.points problem.inputs (map flipped_edges plan.lists) c) (sym centre)
+      (subst (λ edges. IsOpening problem.points problem.inputs edges start.centre.edges) (edges_of_tracks start.tracks ∙ ap (λ ls. map flipped_edges ls) (sym lists)) is.opening);
+  within = is.within;
+}
+
+settled_at_end : (points : List Point) (plan end : Plan) (made : List (List Edge)) → Settles points plan made end → IsSettled points end
+settled_at_end points plan end [] (same, settled) = subst (IsSettled points) same settled
+settled_at_end points plan end (move ∷ made) (next, first, leads, settles) = settled_at_end points next end made settles
+
+pub found_of : (problem : Problem) (order : Order) (opening plan : Plan) (made : List (List Edge)) → IsOpeningPlan problem order.flips opening → Settles problem.points (improved (words_of order.seed) problem.points problem.inputs order.turns 0 opening) made plan
+    → IsPlanOf problem.points problem.inputs plan → plan_total plan ≤ plan_total opening → IsFoundPlan problem order plan
+found_of problem order opening plan made opens settles is_plan no_more = record {
+  opening = opening;
+  opens = opens;
+  made = made;
+  settles = settles;
+  is_plan = is_plan;
+  settled = settled_at_end problem.points (improved (words_of order.seed) problem.points problem.inputs order.turns 0 opening) plan made settles;
+  no_more = no_more;
+}
