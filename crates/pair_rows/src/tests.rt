@@ -6,6 +6,8 @@ use cross_bound::Side;
 use edge_table::Edge;
 use flip_cnf::Frame;
 use geo_orient::Point;
+use rup_check::check;
+use sat_search::{Answer, solve};
 use std::alloc::{AllocError, Global};
 use std::process::Abort;
 use std::sync::Arc;
@@ -146,6 +148,39 @@ fn too_large(row: &Row) -> Option<(u32, u64)> {
         End::TooLarge { k, clauses } => Some((*k, *clauses)),
         _ => None,
     }
+}
+
+// Whether the formula of so many rounds between the first two inputs is refuted, by a log that the checker accepts. It isn't where it has a model, and there is no answer where the budget is spent.
+fn is_refuted(
+    rt: &impl Abort,
+    alloc: Global,
+    inst: &Instance,
+    k: u32,
+) -> Result<Option<bool>, AllocError>
+    requires { k ≤ 9 }
+{
+    expect_three(rt, inst);
+    let frame = Frame::of(alloc, inst)?;
+    let cnf = match frame.build(inst, 0, 1, k) {
+        Ok(cnf) => cnf,
+        Err(_) => return Ok(None),
+    };
+    match solve(alloc, &cnf, 50_000)? {
+        Answer::Sat(_) => Ok(Some(false)),
+        Answer::Refuted(log) => Ok(Some(check(alloc, &cnf, &log).is_ok())),
+        Answer::Spent(_) => Ok(None),
+    }
+}
+
+#[test]
+fn formulas_of_too_few_rounds_are_refuted(rt: HostRuntime) -> Result<(), Fail> {
+    let four = polygon(rt.alloc(), &square())?.expect(&rt, "a square");
+    assert_eq!(rt; is_refuted(&rt, rt.alloc(), &four, 0)?, Some(true));
+    assert_eq!(rt; is_refuted(&rt, rt.alloc(), &four, 1)?, Some(false));
+    let five = polygon(rt.alloc(), &pentagon())?.expect(&rt, "a pentagon");
+    assert_eq!(rt; is_refuted(&rt, rt.alloc(), &five, 1)?, Some(true));
+    assert_eq!(rt; is_refuted(&rt, rt.alloc(), &five, 2)?, Some(false));
+    Ok(())
 }
 
 #[test]
