@@ -37,8 +37,8 @@ pub enum LogFault {
 
 ghost use Rattle.log_law.specs.LogLaws.{FollowingLinesAreImplied, FollowingLogsAreImplied, RefutedFormulasHaveNoModel, FaultlessStepsFollow, FaultlessLogsRefute, KnownClausesFit, NewLinesAreUnsaid, LogsGrow, LinesCostThree};
 ghost use Rattle.log_law.specs.UnitLaws.{MembersAreTrue, UnitClauses, StillClauses};
-ghost use Rattle.log_law.specs.Marks.{MarksAreMembers, MarksBegin, MarksGoBack, MarksAssert, MarksAreApart};
-ghost use Rattle.log_law.specs.SearchLaws.{LearntLinesFollow, LearntLinesAreNew, EmptyLearntLinesAreNew, ResolutionsKeepTheLevel, ResolutionsStayFalse, LaterStepsHaveReasons, ReasonsAreEarlier, LearntLinesAssert, StepsAreFound, ValuesAreOfSteps, NoStepsAreATrail, UnitStepsKeepTrails, DecisionsKeepTrails, GoingBackKeepsTrails, LearntClausesKeepTrails, FullRestIsAModel, ListedRestIsAModel};
+ghost use Rattle.log_law.specs.Places.{PlacesBegin, PlacesGoBack, PlacesAssert, PlacesAreApart};
+ghost use Rattle.log_law.specs.SearchLaws.{LearntLinesFollow, LearntLinesAreNew, EmptyLearntLinesAreNew, ResolutionsKeepTheLevel, ResolutionsStayFalse, LaterStepsHaveReasons, ReasonsAreEarlier, LearntLinesAssert, StepsAreFound, PlacesAreFound, PlacesHaveSteps, PlacesAreOfSteps, ValuesAreOfSteps, NoStepsAreATrail, UnitStepsKeepTrails, DecisionsKeepTrails, GoingBackKeepsTrails, LearntClausesKeepTrails, FullRestIsAModel, ListedRestIsAModel};
 
 /// The laws of partial assignments and unit clauses.
 pub fn laws_of_units()
@@ -72,18 +72,20 @@ pub fn laws_of_learning()
     ensures learnt_lines_assert { LearntLinesAssert }
 {}
 
-/// The laws of a resolution that is kept as marks on variables.
-pub fn laws_of_marks()
-    ensures marks_are_members { MarksAreMembers }
-    ensures marks_begin { MarksBegin }
-    ensures marks_go_back { MarksGoBack }
-    ensures marks_assert { MarksAssert }
-    ensures marks_are_apart { MarksAreApart }
+/// The laws of a resolution that is kept as places on the trail.
+pub fn laws_of_places()
+    ensures places_begin { PlacesBegin }
+    ensures places_go_back { PlacesGoBack }
+    ensures places_assert { PlacesAssert }
+    ensures places_are_apart { PlacesAreApart }
 {}
 
 /// The laws of looking a trail's steps up, and of what keeps a search's trail a trail.
 pub fn laws_of_trails()
     ensures steps_are_found { StepsAreFound }
+    ensures places_are_found { PlacesAreFound }
+    ensures places_have_steps { PlacesHaveSteps }
+    ensures places_are_of_steps { PlacesAreOfSteps }
     ensures values_are_of_steps { ValuesAreOfSteps }
     ensures no_steps_are_a_trail { NoStepsAreATrail }
     ensures unit_steps_keep_trails { UnitStepsKeepTrails }

@@ -1,6 +1,6 @@
 -- What a conflict teaches may be learnt where the search goes back to.
-use Rattle.std.proofs.Common.{◌≡◌, ◌≢◌, ◌⊎◌, inl, inr, ℕ, ◌+◌, ◌<◌, ◌≤◌, Bool, true, Option, Some, List, [], ◌∷◌, ◌++◌, length, get_or, reverse, take, Contains, refl, sym, ap, ◌∙◌, subst, arith}
-use Rattle.std.specs.Prelude.{All, filter, nat_le, slice_get}
+use Rattle.std.proofs.Common.{◌≡◌, ◌≢◌, ◌⊎◌, inl, inr, ℕ, ◌+◌, ◌<◌, ◌≤◌, true, Option, Some, List, [], ◌∷◌, ◌++◌, length, get_or, reverse, take, Contains, refl, sym, ap, ◌∙◌, subst, arith}
+use Rattle.std.specs.Prelude.{All, AllPairs, filter, nat_le, slice_get}
 use Rattle.std.proofs.lemmas.List.{append-nil, take_more, take_all}
 use Rattle.std.proofs.lemmas.List.Elements.{Contains-push_cases, Contains-get_or}
 use Rattle.std.proofs.lemmas.Option.{get_or_from_slice_get, slice_get_within}
@@ -9,25 +9,23 @@ use Rattle.log_law.specs.declared.Step.{Step}
 use Rattle.log_law.specs.Clauses.{Clause, Formula, negated, IsClause}
 use Rattle.log_law.specs.Units.{value, IsLitTrue, IsUnassigned, IsUnit}
 use Rattle.log_law.specs.Logs.{Line, known, clause_at}
-use Rattle.log_law.specs.Trails.{no_step, step_at, level_of, up_to, HaveSame, IsTrail, Resolved, IsAsserting, IsLearnt}
-use Rattle.log_law.specs.Marks.{marked}
+use Rattle.log_law.specs.Trails.{no_step, step_at, level_of, up_to, HaveSame, negated_at, IsTrail, Resolved, IsAsserting, IsLearnt}
 use Rattle.log_law.specs.SearchLaws.{IsConflict, IsFresh}
 use Rattle.log_law.proofs.Lists.{all_members, any_member, contains_at, filter_from}
 use Rattle.log_law.proofs.Values.{lit_cases, none_is, true_false, unit_member, unit_others}
-use Rattle.log_law.proofs.Proved.{learnt_lines_follow, learnt_lines_assert, marks_assert, marks_are_apart}
+use Rattle.log_law.proofs.Proved.{learnt_lines_follow, learnt_lines_assert, places_assert}
 use Rattle.sat_state.specs.Searches.{Search, IsSearch, MayLearn}
-use Rattle.sat_search.specs.Resolutions.{is_marked, IsResolving, IsResolved}
+use Rattle.sat_search.specs.Resolutions.{IsResolving, IsResolved}
 use Rattle.sat_search.specs.Lessons.{IsEnd, IsLesson}
-use Rattle.sat_search.proofs.BackSteps.{step_level}
-use Rattle.sat_search.proofs.LeftOver.{Ascend}
+use Rattle.sat_search.proofs.Resolving.{step_level}
 
 -- ---- the line
-pub lesson_is : (s : Search) (S : IsSearch s) (conflict count : ℕ) (seen : List Bool) (reasons : List ℕ) (line : Line) → IsResolving s conflict 0 seen count reasons → IsResolved s seen
-    → line.id ≡ length s.clauses + 1 → Ascend line.literals → HaveSame line.literals (marked (is_marked seen) s.trail) → line.hints ≡ reverse reasons ++ conflict ∷ [] → IsLesson s conflict line
-lesson_is s S conflict count seen reasons line R E id up same hints = record {
+pub lesson_is : (s : Search) (S : IsSearch s) (conflict : ℕ) (left reasons : List ℕ) (line : Line) → IsResolving s conflict [] left reasons → IsResolved s left
+    → line.id ≡ length s.clauses + 1 → AllPairs (λ k l. k.var < l.var) line.literals → HaveSame line.literals (negated_at s.trail left) → line.hints ≡ reverse reasons ++ conflict ∷ [] → IsLesson s conflict line
+lesson_is s S conflict left reasons line R E id up same hints = record {
   used = R.used;
-  clause = marked (is_marked seen) s.trail;
-  resolved = R.resolved;
+  clause = negated_at s.trail left;
+  resolved = subst (λ (ps : List ℕ). Resolved s.clauses s.trail (clause_at s.clauses conflict) R.used (negated_at s.trail ps)) (append-nil left) R.resolved;
   learnt = record {
     next_id = id;
     sorted = up;
@@ -37,9 +35,9 @@ lesson_is s S conflict count seen reasons line R E id up same hints = record {
   ends = ends E;
 }
   where
-    ends : IsResolved s seen → IsEnd s (marked (is_marked seen) s.trail)
-    ends (inl (above, (place, L))) = inl (above, (place, marks_assert s.clauses s.trail s.level place (is_marked seen) S.trail L.here L.at_level L.stands L.others))
-    ends (inr (z, f)) = let a = marks_are_apart s.clauses s.trail s.level (is_marked seen) S.trail in inr (z, a.1 f)
+    ends : IsResolved s left → IsEnd s (negated_at s.trail left)
+    ends (inl (above, (place, c, e, f))) = inl (above, (place, places_assert s.clauses s.trail s.level place left S.trail R.left_within c e f))
+    ends (inr (z, e)) = inr (z, ap (negated_at s.trail) e)
 
 -- ---- the highest of the lower levels
 abbrev pub IsHighest : Search → Clause → ℕ → Type 0

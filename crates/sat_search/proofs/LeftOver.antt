@@ -1,126 +1,41 @@
--- The literals of a line, taken by variable from the marks, and its hints.
-use Rattle.std.proofs.Common.{◌≡◌, ◌≢◌, ◌⊎◌, ◌↔◌, inl, inr, ℕ, ◌+◌, ◌<◌, ◌≤◌, Bool, true, false, not, Option, Some, None, List, [], ◌∷◌, ◌++◌, get_or, Contains, sym, ap, ◌∙◌, subst, arith}
-use Rattle.std.specs.Prelude.{AllPairs, filter}
-use Rattle.std.proofs.lemmas.Bool.{true≢false, cases_eq}
-use Rattle.std.proofs.lemmas.List.Elements.{Contains-append_left, Contains-push, Contains-push_cases, Contains-get_or, All-contains}
-use Rattle.std.proofs.lemmas.List.Quantifiers.{all_pairs_push}
+-- The literals that are left, sorted by variable.
+use Rattle.std.proofs.Common.{◌≡◌, ◌≢◌, ◌⊎◌, inl, inr, ℕ, ◌<◌, ◌≤◌, Bool, List, length, get_or, sym, ◌∙◌, subst, arith}
+use Rattle.std.specs.Prelude.{nat_eq, All, AllPairs, Contains}
+use Rattle.std.specs.List.Sorted.{IsPermutation, IsNonDecreasingBy}
+use Rattle.std.proofs.lemmas.Bool.{cases_eq, eq-eqb, ne_eqb, eqb-false}
+use Rattle.std.proofs.lemmas.Map.Keys.{IsDistinct-from_apart, IsDistinct-IsPermutation, apart_from_distinct}
+use Rattle.std.proofs.lemmas.List.Sorted.{Contains-permutation, IsPermutation-sym}
 use Rattle.log_law.specs.declared.Lit.{Lit}
-use Rattle.log_law.specs.declared.Step.{Step}
-use Rattle.log_law.specs.Clauses.{Clause, negated, IsVariable}
-use Rattle.log_law.specs.Units.{value}
-use Rattle.log_law.specs.Trails.{literals, HaveSame}
-use Rattle.log_law.specs.Marks.{marked}
-use Rattle.log_law.proofs.Lists.{contains_none, contains_map, map_from, filter_keeps, filter_from}
-use Rattle.log_law.proofs.Values.{not_not, negated_twice, lit_same, some_is, none_is, lit_false_member, member_true}
-use Rattle.log_law.proofs.Steps.{trail_apart}
+use Rattle.log_law.specs.Clauses.{Clause}
+use Rattle.log_law.specs.Trails.{HaveSame, negated_at}
+use Rattle.log_law.proofs.Proved.{places_are_apart}
 use Rattle.sat_state.specs.Searches.{Search, IsSearch}
-use Rattle.sat_search.specs.Resolutions.{is_marked}
 
--- a false literal of a marked variable up to a number
-pub record IsLeft (s : Search) (seen : List Bool) (n : ℕ) (l : Lit) : Type 0 where
-  pub low : 1 ≤ l.var
-  pub high : l.var ≤ n
-  pub stands : is_marked seen l.var ≡ true
-  pub untrue : value (literals s.trail) l.var ≡ Some (not l.on)
+abbrev same_var : Lit → Lit → Bool
+same_var k l = nat_eq k.var l.var
 
-abbrev pub AreLeft : Search → List Bool → ℕ → Clause → Type 0
-AreLeft s seen n clause = (l : Lit) → Contains clause l ↔ IsLeft s seen n l
+flips : (k l : Lit) → same_var k l ≡ same_var l k
+flips k l = sort (cases_eq k.var l.var)
+  where
+    sort : (k.var ≡ l.var) ⊎ (k.var ≢ l.var) → same_var k l ≡ same_var l k
+    sort (inl e) = eq-eqb k.var l.var e ∙ sym (eq-eqb l.var k.var (sym e))
+    sort (inr n) = ne_eqb k.var l.var n ∙ sym (ne_eqb l.var k.var (λ e. n (sym e)))
 
-abbrev pub Ascend : Clause → Type 0
-Ascend clause = AllPairs (λ k l. k.var < l.var) clause
+-- literals of different variables in the order of these
+pub rising : (clause sorted : Clause) → AllPairs (λ k l. k.var ≢ l.var) clause → IsPermutation clause sorted → IsNonDecreasingBy (λ l. l.var) sorted → AllPairs (λ k l. k.var < l.var) sorted
+rising clause sorted apart moved up i j d a b =
+    let distinct = IsDistinct-IsPermutation same_var flips clause sorted moved (IsDistinct-from_apart same_var clause (λ m n e c f. ne_eqb (get_or clause m e).var (get_or clause n e).var (apart m n e c f))) in
+    let differ = eqb-false (get_or sorted i d).var (get_or sorted j d).var (apart_from_distinct same_var sorted i j d distinct a b) in
+    let le : (get_or sorted i d).var ≤ (get_or sorted j d).var = up i j d (omega arith) b in
+    omega (arith, le, differ)
 
-module _ (s : Search) (seen : List Bool) where
-  pub left_none : AreLeft s seen 0 []
-  left_none l = (λ h. absurd (contains_none l h), λ h. let low : 1 ≤ l.var = h.low in let high : l.var ≤ 0 = h.high in absurd (omega arith))
+-- what stands in the order of the variables after a sort has the literals of these places
+module _ (s : Search) (S : IsSearch s) (places : List ℕ) (within : All (λ p. p < length s.trail) places) (descending : AllPairs (λ later earlier. earlier < later) places) (lits sorted : Clause) (e : lits ≡ negated_at s.trail places) (moved : IsPermutation lits sorted) where
+  pub left_sorted : IsNonDecreasingBy (λ l. l.var) sorted → AllPairs (λ k l. k.var < l.var) sorted
+  left_sorted = rising (negated_at s.trail places) sorted (places_are_apart s.clauses s.trail s.level places S.trail within (λ i j d a b. let f : get_or places j d < get_or places i d = descending i j d a b in λ g. omega (arith, f, g))) (subst (λ (c : Clause). IsPermutation c sorted) e moved)
 
-  higher : (n : ℕ) (l : Lit) → IsLeft s seen n l → IsLeft s seen (n + 1) l
-  higher n l h = record { low = h.low; high = let b : l.var ≤ n = h.high in omega arith; stands = h.stands; untrue = h.untrue }
-
-  lower : (n : ℕ) (l : Lit) → l.var ≢ n + 1 → IsLeft s seen (n + 1) l → IsLeft s seen n l
-  lower n l d h = record { low = h.low; high = let b : l.var ≤ n + 1 = h.high in omega arith; stands = h.stands; untrue = h.untrue }
-
-  -- a variable that isn't marked, or has no value, leaves no literal
-  pub left_skip : (n : ℕ) (clause : Clause) → ((l : Lit) → l.var ≡ n + 1 → IsLeft s seen (n + 1) l → ⊥) → AreLeft s seen n clause → AreLeft s seen (n + 1) clause
-  left_skip n clause f h l = (λ c. let k = h l in higher n l (k.0 c), λ i. by_var i (cases_eq l.var (n + 1)))
-    where
-      by_var : IsLeft s seen (n + 1) l → (l.var ≡ n + 1) ⊎ (l.var ≢ n + 1) → Contains clause l
-      by_var i (inl e) = absurd (f l e i)
-      by_var i (inr d) = let k = h l in k.1 (lower n l d i)
-
-  pub left_unmarked : (n : ℕ) (clause : Clause) → is_marked seen (n + 1) ≡ false → AreLeft s seen n clause → AreLeft s seen (n + 1) clause
-  left_unmarked n clause f h = left_skip n clause (λ l e i. true≢false (sym i.stands ∙ (ap (is_marked seen) e ∙ f))) h
-
-  pub left_unassigned : (n : ℕ) (clause : Clause) (told : Option Bool) → told ≡ value (literals s.trail) (n + 1) → told ≡ None → AreLeft s seen n clause → AreLeft s seen (n + 1) clause
-  left_unassigned n clause told v f h = left_skip n clause (λ l e i. none_is (sym i.untrue ∙ (ap (value (literals s.trail)) e ∙ (sym v ∙ f)))) h
-
-  pub left_more : (n : ℕ) (clause after : Clause) (told : Option Bool) (on : Bool) → is_marked seen (n + 1) ≡ true → told ≡ value (literals s.trail) (n + 1) → told ≡ Some on → after ≡ clause ++ record { var = n + 1; on = not on } ∷ []
-      → AreLeft s seen n clause → AreLeft s seen (n + 1) after
-  left_more n clause after told on m v t a h l = (to, from)
-    where
-      x : Lit
-      x = record { var = n + 1; on = not on }
-
-      x_left : IsLeft s seen (n + 1) x
-      x_left = record { low = omega arith; high = omega arith; stands = m; untrue = sym v ∙ (t ∙ sym (ap (λ (b : Bool). Some b) (not_not on))) }
-
-      to_cases : Contains clause l ⊎ (x ≡ l) → IsLeft s seen (n + 1) l
-      to_cases (inl c) = let k = h l in higher n l (k.0 c)
-      to_cases (inr e) = subst (IsLeft s seen (n + 1)) e x_left
-
-      to : Contains after l → IsLeft s seen (n + 1) l
-      to c = to_cases (Contains-push_cases clause x l (subst (λ (d : Clause). Contains d l) a c))
-
-      same_on : l.var ≡ n + 1 → IsLeft s seen (n + 1) l → x.on ≡ l.on
-      same_on e i =
-          let f : not l.on ≡ on = some_is (sym i.untrue ∙ (ap (value (literals s.trail)) e ∙ (sym v ∙ t))) in
-          ap not (sym f) ∙ not_not l.on
-
-      by_var : IsLeft s seen (n + 1) l → (l.var ≡ n + 1) ⊎ (l.var ≢ n + 1) → Contains (clause ++ x ∷ []) l
-      by_var i (inl e) = subst (Contains (clause ++ x ∷ [])) (lit_same x l (sym e) (same_on e i)) (Contains-push clause x)
-      by_var i (inr d) = let k = h l in Contains-append_left clause (x ∷ []) l (k.1 (lower n l d i))
-
-      from : IsLeft s seen (n + 1) l → Contains after l
-      from i = subst (λ (d : Clause). Contains d l) (sym a) (by_var i (cases_eq l.var (n + 1)))
-
-  pub ascend_more : (n : ℕ) (clause after : Clause) (on : Bool) → after ≡ clause ++ record { var = n + 1; on = on } ∷ [] → AreLeft s seen n clause → Ascend clause → Ascend after
-  ascend_more n clause after on a h up =
-      subst Ascend (sym a) (all_pairs_push (λ (k l : Lit). k.var < l.var) clause (record { var = n + 1; on = on }) up
-      (λ k d b. let c = h (get_or clause k d) in let i = c.0 (Contains-get_or clause k d b) in let u : (get_or clause k d).var ≤ n = i.high in omega arith))
-
-  -- the literals up to the last variable are those that the marks say
-  pub left_all : (n m : ℕ) (clause : Clause) → IsSearch s → m ≡ s.variables → m ≤ n → n ≤ m → AreLeft s seen n clause → HaveSame clause (marked (is_marked seen) s.trail)
-  left_all n m clause S e b d h l = (to, from)
-    where
-      P : List Lit
-      P = literals s.trail
-
-      stood : IsLeft s seen n l → Contains (marked (is_marked seen) s.trail) l
-      stood i = subst (Contains (marked (is_marked seen) s.trail)) (negated_twice l) (contains_map negated (filter (λ (k : Lit). is_marked seen k.var) P) (negated l) (filter_keeps (λ (k : Lit). is_marked seen k.var) P (negated l) (lit_false_member P l i.untrue) i.stands))
-
-      to : Contains clause l → Contains (marked (is_marked seen) s.trail) l
-      to c = let k = h l in stood (k.0 c)
-
-      at : (k : Lit) → negated k ≡ l → Contains P k → is_marked seen k.var ≡ true → IsVariable s.variables k.var → IsLeft s seen n l
-      at k i c m f =
-          let v : k.var ≡ l.var = ap (λ (x : Lit). x.var) i in
-          let o : not k.on ≡ l.on = ap (λ (x : Lit). x.on) i in
-          let low : 1 ≤ k.var = f.0 in
-          let high : k.var ≤ s.variables = f.1 in
-          record {
-            low = omega arith;
-            high = omega arith;
-            stands = ap (is_marked seen) (sym v) ∙ m;
-            untrue = ap (value P) (sym v) ∙ (member_true P k (trail_apart s.clauses s.trail s.level S.trail) c ∙ ap (λ (x : Bool). Some x) (sym (not_not k.on) ∙ ap not o));
-          }
-
-      fits : (k : Lit) → (step : Step) × Contains s.trail step × (step.literal ≡ k) → IsVariable s.variables k.var
-      fits k (step, c, i) = subst (λ (x : Lit). IsVariable s.variables x.var) i (All-contains (λ (t : Step). IsVariable s.variables t.literal.var) s.trail step S.in_range c)
-
-      of_mark : (k : Lit) → negated k ≡ l → Contains P k × (is_marked seen k.var ≡ true) → IsLeft s seen n l
-      of_mark k i (c, m) = at k i c m (fits k (map_from (λ (t : Step). t.literal) s.trail k c))
-
-      of_map : (k : Lit) × Contains (filter (λ (k : Lit). is_marked seen k.var) P) k × (negated k ≡ l) → IsLeft s seen n l
-      of_map (k, c, i) = of_mark k i (filter_from (λ (k : Lit). is_marked seen k.var) P k c)
-
-      from : Contains (marked (is_marked seen) s.trail) l → Contains clause l
-      from c = let k = h l in k.1 (of_map (map_from negated (filter (λ (k : Lit). is_marked seen k.var) P) l c))
+  pub left_same : HaveSame sorted (negated_at s.trail places)
+  left_same l = (
+    λ h. subst (λ (c : Clause). Contains c l) e (Contains-permutation sorted lits l (IsPermutation-sym lits sorted moved) h),
+    λ h. Contains-permutation lits sorted l moved (subst (λ (c : Clause). Contains c l) (sym e) h),
+  )

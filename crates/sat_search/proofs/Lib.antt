@@ -1,6 +1,6 @@
-pub mod BackSteps
+pub mod Resolving
 pub mod Learning
 pub mod LeftOver
-pub mod Marking
-pub mod Tallies
 pub mod UnderWay
+pub mod Waiting
+pub mod Logs

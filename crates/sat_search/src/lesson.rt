@@ -1,53 +1,38 @@
 // What is learnt from a conflict, and the way back.
-ghost use Rattle.std.specs.Prelude.{◌≡◌, ◌≢◌, ◌⊎◌, ℕ, ◌+◌, ◌<◌, ◌≤◌, ◌++◌, ◌∷◌, [], Some, true, length, All, Contains, IfOk};
+ghost use Rattle.std.specs.Prelude.{◌≡◌, ◌≢◌, ◌⊎◌, ℕ, ◌+◌, ◌<◌, ◌≤◌, ◌++◌, ◌∷◌, [], Some, true, length, All, Contains, IfOk, OnOk};
 ghost use Rattle.log_law.specs.declared.Lit.{Lit as Literal};
 ghost use Rattle.log_law.specs.Clauses.{IsVariable, Formula};
 ghost use Rattle.log_law.specs.Logs.{Line as LogLine, known, AllFollow};
-ghost use Rattle.log_law.specs.Trails.{step_at, level_of};
+ghost use Rattle.log_law.specs.Trails.{level_of, literals};
 ghost use Rattle.log_law.specs.SearchLaws.{IsConflict};
 ghost use Rattle.sat_state.specs.Searches.{IsSearch};
-ghost use Rattle.sat_search.specs.Resolutions.{IsResolving, IsResolved};
-ghost use Rattle.sat_search.specs.Lessons.{IsLesson};
+ghost use Rattle.sat_search.specs.Choices.{IsReady};
+ghost use Rattle.sat_search.specs.Lessons.{IsLesson, IsTaught};
 
 use crate::left::{hints_of, literals_left};
-use crate::resolution::{Resolution, begin, go_over_ground, go_to_stop};
+use crate::order::Order;
+use crate::resolution::resolve;
 use rup_check::{Clause, Line};
 use sat_state::State;
 use std::alloc::{AllocError, Global};
 
-// What a conflict leaves: above level 0 the last marked step of the present level, and no other of it or of level 0.
-fn resolve(alloc: Global, vars: u32, state: &State, conflict: u32) -> Result<Resolution, AllocError>
-    requires search { IsSearch state.now }
-    requires vars { vars ≡ state.now.variables }
-    requires conflict { IsConflict state.now.clauses state.now.trail conflict }
-    ensures resolving { IfOk result (λ r. IsResolving state.now conflict 0 r.seen.items r.count r.reasons.items) }
-    ensures ends { IfOk result (λ r. IsResolved state.now r.seen.items) }
-{
-    let mut r = begin(alloc, vars, state, conflict)?;
-    let from = go_to_stop(&mut r, state, conflict)?;
-    go_over_ground(&mut r, state, conflict, from)?;
-    Ok(r)
-}
-
 // The line that says what a conflict teaches.
-fn lesson(
+pub(crate) fn lesson(
     alloc: Global,
-    vars: u32,
     state: &State,
     conflict: u32,
     id: u32,
 ) -> Result<Line, AllocError>
     requires search { IsSearch state.now }
-    requires vars { vars ≡ state.now.variables }
     requires conflict { IsConflict state.now.clauses state.now.trail conflict }
     requires id { id ≡ length state.now.clauses + 1 }
     ensures { IfOk result (IsLesson state.now conflict) }
 {
-    let r = resolve(alloc, vars, state, conflict)?;
+    let r = resolve(alloc, state, conflict)?;
     Ok(Line {
         id,
-        lits: literals_left(alloc, vars, state, &r.seen)?,
-        hints: hints_of(alloc, &r.reasons, conflict)?,
+        lits: literals_left(alloc, state, &r.left)?,
+        hints: hints_of(alloc, &r)?,
     })
 }
 
@@ -71,28 +56,20 @@ fn level_below(state: &State, clause: &Clause) -> u32
     lower
 }
 
-// Learns from a conflict: above level 0 goes back as far as the line still makes a unit step, and holds its clause.
-pub(crate) fn learn(
-    alloc: Global,
-    vars: u32,
-    state: &mut State,
-    conflict: u32,
-    id: u32,
-) -> Result<Line, AllocError>
+// Learns a clause that a conflict teaches: goes back as far as it still makes a unit step, and holds it.
+pub(crate) fn learn(state: &mut State, order: &mut Order, clause: Clause) -> Result<(), AllocError>
     requires search { IsSearch state.old }
-    requires vars { vars ≡ state.old.variables }
-    requires conflict { IsConflict state.old.clauses state.old.trail conflict }
-    requires id { id ≡ length state.old.clauses + 1 }
+    requires above { 0 < state.old.level }
+    requires taught { IsTaught state.old clause }
+    requires ready { IsReady state.old.variables (literals state.old.trail) order.old }
     requires room { length state.old.clauses < 4_000_000_000 }
-    ensures lesson { IfOk result (IsLesson state.old conflict) }
-    ensures variables { IfOk result (λ _. state.new.variables ≡ state.old.variables) }
-    ensures held { IfOk result (λ line. line.literals ≢ [] → state.new.clauses ≡ state.old.clauses ++ line.literals ∷ []) }
+    ensures variables { OnOk result (state.new.variables ≡ state.old.variables) }
+    ensures ready { OnOk result (IsReady state.new.variables (literals state.new.trail) order.new) }
+    ensures held { OnOk result (state.new.clauses ≡ state.old.clauses ++ clause ∷ []) }
 {
-    let line = lesson(alloc, vars, state, conflict, id)?;
-    if state.level() > 0 {
-        let lower = level_below(state, &line.lits);
-        state.back(lower);
-        state.learn(line.lits.copy()?)?;
-    }
-    Ok(line)
+    let lower = level_below(state, &clause);
+    order.release(state, lower)?;
+    state.back(lower);
+    state.learn(clause)?;
+    Ok(())
 }

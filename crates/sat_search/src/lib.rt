@@ -3,7 +3,6 @@
 
 mod left;
 mod lesson;
-mod marks;
 mod order;
 mod resolution;
 mod search;

@@ -1,70 +1,96 @@
 // The resolution of a conflict back along the trail.
-ghost use Rattle.std.specs.Prelude.{◌≡◌, ◌≢◌, ◌⊎◌, ◌↔◌, ℕ, ◌+◌, ◌<◌, ◌≤◌, true, false, None, length, replicate, IfOk, OnOk};
-ghost use Rattle.log_law.specs.Logs.{clause_at};
-ghost use Rattle.log_law.specs.Trails.{step_at, reason_at};
-ghost use Rattle.log_law.specs.Marks.{Names};
+ghost use Rattle.std.specs.Prelude.{◌≡◌, ◌≢◌, ◌⊎◌, ◌↔◌, ℕ, ◌<◌, ◌≤◌, ◌++◌, ◌∷◌, [], true, false, None, length, All, Contains, IfOk, OnOk};
+ghost use Rattle.log_law.specs.Clauses.{IsClause};
+ghost use Rattle.log_law.specs.Trails.{step_at, Names};
 ghost use Rattle.log_law.specs.SearchLaws.{IsConflict};
 ghost use Rattle.sat_state.specs.Searches.{IsSearch};
-ghost use Rattle.sat_search.specs.Resolutions.{is_marked, is_marked_at, IsResolving, IsLast, IsStop};
+ghost use Rattle.sat_search.specs.Resolutions.{IsResolving, IsLast, IsResolved};
 
-use crate::marks::{is_of_level, mark_clause, unmark};
+use rup_check::Clause;
 use sat_state::State;
 use std::alloc::{AllocError, Global};
+use std::collections::BTreeSet;
 
-// The clause that is left, as marks on the variables that it names.
+// The clause that is left, as the places of the steps that make its literals false.
 #[derive(Drop)]
 pub(crate) struct Resolution {
-    // by variable
-    pub(crate) seen: Vec<bool>,
-    // how many marked variables are of the present level
-    pub(crate) count: usize,
+    // the clause that was falsified
+    pub(crate) conflict: u32,
+    // places that the way back hasn't come to
+    pub(crate) pending: BTreeSet<u32, Global>,
+    // places that it leaves, the last on the trail first
+    pub(crate) left: Vec<u32>,
     // the reasons that were used, the last on the trail first
     pub(crate) reasons: Vec<u32>,
 }
 
-// No marks, for so many places.
-fn no_marks(alloc: Global, places: usize) -> Result<Vec<bool>, AllocError>
-    ensures { IfOk result (λ made. made.items ≡ replicate places false) }
+// The level of the step at a place.
+fn level_at(state: &State, place: u32) -> u32
+    requires search { IsSearch state.now }
+    requires within { place < length state.now.trail }
+    ensures { result ≡ (step_at state.now.trail place).level }
 {
-    vec![in alloc; false; places]
+    state.level_of(state.trail_at(place).var).unwrap_or(0)
+}
+
+// Adds the places before one at which variables of a clause were assigned.
+fn add_places(
+    pending: &mut BTreeSet<u32, Global>,
+    state: &State,
+    clause: &Clause,
+    before: u32,
+) -> Result<(), AllocError>
+    requires search { IsSearch state.now }
+    requires fits { IsClause state.now.variables clause.now }
+    ensures { OnOk result ((p : ℕ) → Contains pending.new.keys p ↔ (Contains pending.old.keys p ⊎ ((p < before) × (p < length state.now.trail) × Names clause.now (step_at state.now.trail p).literal.var))) }
+{
+    for i in 0..clause.len() {
+        if let Some(place) = state.place(clause.at(i).var) {
+            if place < before {
+                pending.insert(place)?;
+            }
+        }
+    }
+    Ok(())
 }
 
 // Begins with the clause that is falsified.
-pub(crate) fn begin(
-    alloc: Global,
-    vars: u32,
-    state: &State,
-    conflict: u32,
-) -> Result<Resolution, AllocError>
+fn begin(alloc: Global, state: &State, conflict: u32) -> Result<Resolution, AllocError>
     requires search { IsSearch state.now }
-    requires vars { vars ≡ state.now.variables }
     requires conflict { IsConflict state.now.clauses state.now.trail conflict }
-    ensures { IfOk result (λ r. IsResolving state.now conflict (length state.now.trail) r.seen.items r.count r.reasons.items) }
+    ensures conflict { IfOk result (λ r. r.conflict ≡ conflict) }
+    ensures left { IfOk result (λ r. r.left.items ≡ []) }
+    ensures resolving { IfOk result (λ r. IsResolving state.now conflict r.pending.keys r.left.items r.reasons.items) }
 {
-    let mut seen = no_marks(alloc, vars as usize + 1)?;
-    let count = mark_clause(&mut seen, state, state.clause(conflict), 0);
+    let mut pending = BTreeSet::new(alloc);
+    add_places(
+        &mut pending,
+        state,
+        state.clause(conflict),
+        state.trail_len(),
+    )?;
     Ok(Resolution {
-        seen,
-        count,
+        conflict,
+        pending,
+        left: Vec::new(alloc),
         reasons: Vec::new(alloc),
     })
 }
 
-// Goes back over a marked step that has a reason.
-fn go_back(r: &mut Resolution, state: &State, conflict: u32, place: u32) -> Result<(), AllocError>
+// Goes back over the step at the last pending place, which was taken out.
+fn go_back(r: &mut Resolution, state: &State, place: u32) -> Result<(), AllocError>
     requires search { IsSearch state.now }
-    requires within { place < length state.now.trail }
-    requires resolving { IsResolving state.now conflict (place + 1) r.old.seen.items r.old.count r.old.reasons.items }
-    requires marked { is_marked_at r.old.seen.items state.now place ≡ true }
+    requires resolving { IsResolving state.now r.old.conflict (r.old.pending.keys ++ place ∷ []) r.old.left.items r.old.reasons.items }
+    requires last { All (λ p. p < place) r.old.pending.keys }
     requires reason { (step_at state.now.trail place).reason ≢ None }
-    ensures resolving { OnOk result (IsResolving state.now conflict place r.new.seen.items r.new.count r.new.reasons.items) }
-    ensures marks { OnOk result ((v : ℕ) → (is_marked r.new.seen.items v ≡ true) ↔ ((v ≢ (step_at state.now.trail place).literal.var) × ((is_marked r.old.seen.items v ≡ true) ⊎ Names (clause_at state.now.clauses (reason_at state.now.trail place)) v))) }
+    ensures conflict { OnOk result (r.new.conflict ≡ r.old.conflict) }
+    ensures left { OnOk result (r.new.left.items ≡ r.old.left.items) }
+    ensures pending { OnOk result ((p : ℕ) → Contains r.new.pending.keys p → Contains r.old.pending.keys p ⊎ (p < place)) }
+    ensures resolving { OnOk result (IsResolving state.now r.new.conflict r.new.pending.keys r.new.left.items r.new.reasons.items) }
 {
-    let var = state.trail_at(place).var;
-    match state.reason(var) {
+    match state.reason(state.trail_at(place).var) {
         Some(reason) => {
-            let count = mark_clause(&mut r.seen, state, state.clause(reason), r.count);
-            r.count = unmark(&mut r.seen, state, var, count);
+            add_places(&mut r.pending, state, state.clause(reason), place)?;
             r.reasons.push(reason)?;
             Ok(())
         },
@@ -72,66 +98,72 @@ fn go_back(r: &mut Resolution, state: &State, conflict: u32, place: u32) -> Resu
     }
 }
 
-// Goes back until one marked step alone is of the present level, and answers its place.
-fn go_to_last(r: &mut Resolution, state: &State, conflict: u32) -> Result<u32, AllocError>
-    requires above { 0 < state.now.level }
-    requires conflict { IsConflict state.now.clauses state.now.trail conflict }
-    requires resolving { IsResolving state.now conflict (length state.now.trail) r.old.seen.items r.old.count r.old.reasons.items }
-    ensures last { IfOk result (λ place. IsLast state.now r.new.seen.items place) }
-    ensures resolving { IfOk result (λ place. IsResolving state.now conflict place r.new.seen.items r.new.count r.new.reasons.items) }
+// Whether all pending places are of lower levels than the present one.
+fn are_lower(pending: &BTreeSet<u32, Global>, state: &State) -> bool
+    requires search { IsSearch state.now }
+    requires within { All (λ p. p < length state.now.trail) pending.now.keys }
+    ensures lower { result ≡ true → All (λ p. (step_at state.now.trail p).level < state.now.level) pending.now.keys }
+    ensures another { result ≡ false → (p : ℕ) × Contains pending.now.keys p × ((step_at state.now.trail p).level ≡ state.now.level) }
 {
-    let mut place = state.trail_len();
-    while place > 0 {
-        place -= 1;
-        let var = state.trail_at(place).var;
-        if r.seen[var as usize] {
-            if r.count == 1 {
-                return Ok(place);
-            }
-            go_back(r, state, conflict, place)?;
+    match pending.last() {
+        Some(place) => level_at(state, *place) < state.level(),
+        None => true,
+    }
+}
+
+// Goes back until one place alone is of the present level, and leaves that.
+fn go_to_last(r: &mut Resolution, state: &State) -> Result<(), AllocError>
+    requires search { IsSearch state.now }
+    requires above { 0 < state.now.level }
+    requires conflict { IsConflict state.now.clauses state.now.trail r.old.conflict }
+    requires left { r.old.left.items ≡ [] }
+    requires resolving { IsResolving state.now r.old.conflict r.old.pending.keys r.old.left.items r.old.reasons.items }
+    ensures conflict { OnOk result (r.new.conflict ≡ r.old.conflict) }
+    ensures last { OnOk result (IsLast state.now r.new.pending.keys r.new.left.items) }
+    ensures resolving { OnOk result (IsResolving state.now r.new.conflict r.new.pending.keys r.new.left.items r.new.reasons.items) }
+{
+    while let Some(place) = r.pending.pop_last() {
+        if are_lower(&r.pending, state) {
+            r.left.push(place)?;
+            return Ok(());
         }
+        go_back(r, state, place)?;
     }
     unreachable!()
 }
 
-// Above level 0 goes back until one marked step alone is of the present level, and answers where it stopped.
-pub(crate) fn go_to_stop(
-    r: &mut Resolution,
-    state: &State,
-    conflict: u32,
-) -> Result<u32, AllocError>
-    requires conflict { IsConflict state.now.clauses state.now.trail conflict }
-    requires resolving { IsResolving state.now conflict (length state.now.trail) r.old.seen.items r.old.count r.old.reasons.items }
-    ensures stop { IfOk result (λ place. IsStop state.now r.new.seen.items place) }
-    ensures resolving { IfOk result (λ place. IsResolving state.now conflict place r.new.seen.items r.new.count r.new.reasons.items) }
-{
-    if state.level() == 0 {
-        return Ok(state.trail_len());
-    }
-    go_to_last(r, state, conflict)
-}
-
-// Goes back over all marked steps of level 0 before a place.
-pub(crate) fn go_over_ground(
-    r: &mut Resolution,
-    state: &State,
-    conflict: u32,
-    from: u32,
-) -> Result<(), AllocError>
+// Goes back over the pending steps of level 0, and leaves the others.
+fn go_over_ground(r: &mut Resolution, state: &State) -> Result<(), AllocError>
     requires search { IsSearch state.now }
-    requires within { from ≤ length state.now.trail }
-    requires resolving { IsResolving state.now conflict from r.old.seen.items r.old.count r.old.reasons.items }
-    ensures resolving { OnOk result (IsResolving state.now conflict 0 r.new.seen.items r.new.count r.new.reasons.items) }
-    ensures ground { OnOk result ((place : ℕ) → place < from → (step_at state.now.trail place).level ≡ 0 → is_marked_at r.new.seen.items state.now place ≢ true) }
-    ensures above { OnOk result ((place : ℕ) → place < length state.now.trail → 0 < (step_at state.now.trail place).level → (is_marked_at r.new.seen.items state.now place ≡ true) ↔ (is_marked_at r.old.seen.items state.now place ≡ true)) }
+    requires resolving { IsResolving state.now r.old.conflict r.old.pending.keys r.old.left.items r.old.reasons.items }
+    ensures conflict { OnOk result (r.new.conflict ≡ r.old.conflict) }
+    ensures pending { OnOk result (r.new.pending.keys ≡ []) }
+    ensures stay { OnOk result ((p : ℕ) → Contains r.old.left.items p → Contains r.new.left.items p) }
+    ensures left { OnOk result ((p : ℕ) → Contains r.new.left.items p → Contains r.old.left.items p ⊎ (Contains r.old.pending.keys p × (0 < (step_at state.now.trail p).level))) }
+    ensures resolving { OnOk result (IsResolving state.now r.new.conflict r.new.pending.keys r.new.left.items r.new.reasons.items) }
 {
-    let mut place = from;
-    while place > 0 {
-        place -= 1;
-        let var = state.trail_at(place).var;
-        if r.seen[var as usize] && is_of_level(state, var, 0) {
-            go_back(r, state, conflict, place)?;
+    while let Some(place) = r.pending.pop_last() {
+        if level_at(state, place) > 0 {
+            r.left.push(place)?;
+        } else {
+            go_back(r, state, place)?;
         }
     }
     Ok(())
+}
+
+// Resolves a conflict: above level 0 until one place alone is of the present level, and all literals of level 0 away.
+pub(crate) fn resolve(alloc: Global, state: &State, conflict: u32) -> Result<Resolution, AllocError>
+    requires search { IsSearch state.now }
+    requires conflict { IsConflict state.now.clauses state.now.trail conflict }
+    ensures conflict { IfOk result (λ r. r.conflict ≡ conflict) }
+    ensures resolving { IfOk result (λ r. IsResolving state.now conflict [] r.left.items r.reasons.items) }
+    ensures ends { IfOk result (λ r. IsResolved state.now r.left.items) }
+{
+    let mut r = begin(alloc, state, conflict)?;
+    if state.level() > 0 {
+        go_to_last(&mut r, state)?;
+    }
+    go_over_ground(&mut r, state)?;
+    Ok(r)
 }

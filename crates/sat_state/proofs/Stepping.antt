@@ -1,8 +1,8 @@
--- The steps of a trail, and the table of the step about each variable.
-use Rattle.std.proofs.Common.{◌≡◌, ◌≢◌, ◌⊎◌, inl, inr, ℕ, ◌-◌, ◌<◌, ◌≤◌, true, false, cond, Option, Some, None, List, [], ◌∷◌, ◌++◌, map, length, get_or, set, Contains, refl, sym, ap, ◌∙◌, subst, arith, eqb, get_or-set_same, get_or-set_other}
+-- The steps of a trail, and the table of the place of the step about each variable.
+use Rattle.std.proofs.Common.{◌≡◌, ◌≢◌, ◌⊎◌, inl, inr, ℕ, ◌+◌, ◌-◌, ◌<◌, ◌≤◌, true, false, cond, Option, Some, None, List, [], ◌∷◌, ◌++◌, map, length, get_or, set, Contains, refl, sym, ap, ◌∙◌, subst, arith, eqb, get_or-set_same, get_or-set_other}
 use Rattle.std.specs.Prelude.{All, AllPairs, nat_eq, option_map}
 use Rattle.std.specs.List.{list_any, IsDistinct}
-use Rattle.std.proofs.lemmas.Bool.{cases_eq, eq-eqb, ne_eqb, eqb-true, or_cases}
+use Rattle.std.proofs.lemmas.Bool.{cases_eq, ne_eqb, eqb-true, or_cases}
 use Rattle.std.proofs.lemmas.List.{length_push, length-map, length-set, get_or-map, map_push, get_or_push}
 use Rattle.std.proofs.lemmas.List.Elements.{All-push, All-map, Contains-get_or}
 use Rattle.std.proofs.lemmas.List.Quantifiers.{all_pairs_push}
@@ -12,8 +12,8 @@ use Rattle.log_law.specs.declared.Lit.{Lit}
 use Rattle.log_law.specs.declared.Step.{Step}
 use Rattle.log_law.specs.Clauses.{Clause, IsVariable, IsClause}
 use Rattle.log_law.specs.Units.{value, IsUnassigned}
-use Rattle.log_law.specs.Trails.{no_step, step_of, literals}
-use Rattle.log_law.proofs.Found.{values_are_of_steps}
+use Rattle.log_law.specs.Trails.{no_step, step_of, place_of, literals}
+use Rattle.log_law.proofs.Found.{place_found, place_none, values_are_of_steps}
 use Rattle.log_law.proofs.Lists.{contains_here, contains_later, contains_map, contains_at, map_from, pairs_map, pairs_left}
 use Rattle.log_law.proofs.Values.{AreApart, none_member, value_none}
 use Rattle.sat_state.specs.Tables.{IsHeld}
@@ -74,26 +74,12 @@ step_none : (o : Option Step) → option_map (λ (s : Step). s.literal.on) o ≡
 step_none None e = refl
 step_none (Some s) e = cc
 
-pub unfound : (steps : List Step) (v : ℕ) → value (literals steps) v ≡ None → step_of steps v ≡ None
-unfound steps v e = step_none (step_of steps v) (sym (values_are_of_steps steps v) ∙ e)
+pub unplaced : (steps : List Step) (v : ℕ) → value (literals steps) v ≡ None → place_of steps v ≡ None
+unplaced steps v e = (place_none steps v).1 (step_none (step_of steps v) (sym (values_are_of_steps steps v) ∙ e))
 
-pub found_new : (steps : List Step) (s : Step) → step_of steps s.literal.var ≡ None → step_of (steps ++ s ∷ []) s.literal.var ≡ Some s
-found_new [] s e = let t : nat_eq s.literal.var s.literal.var ≡ true = eq-eqb s.literal.var s.literal.var refl in rw t refl
-found_new (x ∷ steps) s e = by_var (cases_eq x.literal.var s.literal.var) (found_new steps s)
-  where
-    by_var : (x.literal.var ≡ s.literal.var) ⊎ (x.literal.var ≢ s.literal.var) → (step_of steps s.literal.var ≡ None → step_of (steps ++ s ∷ []) s.literal.var ≡ Some s) → step_of (x ∷ (steps ++ s ∷ [])) s.literal.var ≡ Some s
-    by_var (inl i) again =
-        let t : nat_eq x.literal.var s.literal.var ≡ true = eq-eqb x.literal.var s.literal.var i in
-        let f : Some x ≡ None = sym (ap (λ b. cond b (Some x) (step_of steps s.literal.var)) t) ∙ e in
-        cc
-    by_var (inr n) again =
-        let t : nat_eq x.literal.var s.literal.var ≡ false = ne_eqb x.literal.var s.literal.var n in
-        let f : step_of steps s.literal.var ≡ None = sym (ap (λ b. cond b (Some x) (step_of steps s.literal.var)) t) ∙ e in
-        rw t (again f)
-
-pub found_other : (steps : List Step) (s : Step) (v : ℕ) → s.literal.var ≢ v → step_of (steps ++ s ∷ []) v ≡ step_of steps v
-found_other [] s v n = let t : nat_eq s.literal.var v ≡ false = ne_eqb s.literal.var v n in rw t refl
-found_other (x ∷ steps) s v n = ap (λ (o : Option Step). cond (nat_eq x.literal.var v) (Some x) o) (found_other steps s v n)
+pub placed_other : (steps : List Step) (s : Step) (v : ℕ) → s.literal.var ≢ v → place_of (steps ++ s ∷ []) v ≡ place_of steps v
+placed_other [] s v n = let t : nat_eq s.literal.var v ≡ false = ne_eqb s.literal.var v n in rw t refl
+placed_other (x ∷ steps) s v n = ap (λ (o : Option ℕ). cond (nat_eq x.literal.var v) (Some 0) (option_map (λ place. place + 1) o)) (placed_other steps s v n)
 
 abbrev pub Apart : Step → Step → Type 0
 Apart s t = s.literal.var ≢ t.literal.var
@@ -114,24 +100,29 @@ pub apart_push : (steps : List Step) (s : Step) → AllPairs Apart steps → IsU
 apart_push steps s a free =
     all_pairs_push Apart steps s a (λ k d l. none_member (literals steps) s.literal.var free (get_or steps k d).literal (contains_map (λ (x : Step). x.literal) steps (get_or steps k d) (Contains-get_or steps k d l)))
 
+pub placed_new : (steps : List Step) (s : Step) → AllPairs Apart (steps ++ s ∷ []) → place_of (steps ++ s ∷ []) s.literal.var ≡ Some (length steps)
+placed_new steps s a =
+    subst (λ (x : Step). place_of (steps ++ s ∷ []) x.literal.var ≡ Some (length steps)) (get_or_push steps s no_step (length steps) refl)
+    (place_found (steps ++ s ∷ []) (length steps) a (omega (arith, length_push steps s)))
+
 -- there is room for a step about a variable without one
 pub room_left : (n : ℕ) (steps : List Step) (s : Step) → AllPairs Apart steps → All (InRange n) steps → IsVariable n s.literal.var → IsUnassigned (literals steps) s.literal → length steps < n
 room_left n steps s a r v free = omega (arith, length_push steps s, steps_fit n (steps ++ s ∷ []) (apart_push steps s a free) (All-push (InRange n) steps s r v))
 
-pub held_push : (n : ℕ) (steps : List Step) (found : List (Option Step)) (s : Step) → IsHeld n steps found → IsVariable n s.literal.var → IsUnassigned (literals steps) s.literal → IsHeld n (steps ++ s ∷ []) (set found s.literal.var (Some s))
-held_push n steps found s H v free = record {
+pub held_push : (n : ℕ) (steps : List Step) (places : List (Option ℕ)) (s : Step) → IsHeld n steps places → IsVariable n s.literal.var → IsUnassigned (literals steps) s.literal → IsHeld n (steps ++ s ∷ []) (set places s.literal.var (Some (length steps)))
+held_push n steps places s H v free = record {
   small = H.small;
   in_range = All-push (InRange n) steps s H.in_range v;
   apart = apart_push steps s H.apart free;
-  wide = length-set found s.literal.var (Some s) ∙ H.wide;
+  wide = length-set places s.literal.var (Some (length steps)) ∙ H.wide;
   same = λ w. by_var w (cases_eq s.literal.var w);
 }
   where
-    by_var : (w : ℕ) → (s.literal.var ≡ w) ⊎ (s.literal.var ≢ w) → get_or (set found s.literal.var (Some s)) w None ≡ step_of (steps ++ s ∷ []) w
+    by_var : (w : ℕ) → (s.literal.var ≡ w) ⊎ (s.literal.var ≢ w) → get_or (set places s.literal.var (Some (length steps))) w None ≡ place_of (steps ++ s ∷ []) w
     by_var w (inl e) =
-        subst (λ x. get_or (set found s.literal.var (Some s)) x None ≡ step_of (steps ++ s ∷ []) x) e
-        (let b = H.wide in let c = v.1 in get_or-set_same found s.literal.var (Some s) None (omega arith) ∙ sym (found_new steps s (unfound steps s.literal.var free)))
-    by_var w (inr m) = get_or-set_other found s.literal.var w (Some s) None (λ e. m (sym e)) ∙ (H.same w ∙ sym (found_other steps s w m))
+        subst (λ x. get_or (set places s.literal.var (Some (length steps))) x None ≡ place_of (steps ++ s ∷ []) x) e
+        (let b = H.wide in let c = v.1 in get_or-set_same places s.literal.var (Some (length steps)) None (omega arith) ∙ sym (placed_new steps s (apart_push steps s H.apart free)))
+    by_var w (inr m) = get_or-set_other places s.literal.var w (Some (length steps)) None (λ e. m (sym e)) ∙ (H.same w ∙ sym (placed_other steps s w m))
 
 -- ---- without the last step
 pub last_unassigned : (steps : List Step) (s : Step) → AllPairs Apart (steps ++ s ∷ []) → IsUnassigned (literals steps) s.literal
@@ -143,20 +134,20 @@ last_unassigned steps s a = value_none (literals steps) s.literal.var (λ l c. f
 pub last_range : (n : ℕ) (steps : List Step) (s : Step) → All (InRange n) (steps ++ s ∷ []) → IsVariable n s.literal.var
 last_range n steps s h = subst (λ (x : Step). InRange n x) (get_or_push steps s no_step (length steps) refl) (h (length steps) no_step (omega (arith, length_push steps s)))
 
-pub held_pop : (n : ℕ) (steps : List Step) (found : List (Option Step)) (s : Step) → IsHeld n (steps ++ s ∷ []) found → IsHeld n steps (set found s.literal.var None)
-held_pop n steps found s H = record {
+pub held_pop : (n : ℕ) (steps : List Step) (places : List (Option ℕ)) (s : Step) → IsHeld n (steps ++ s ∷ []) places → IsHeld n steps (set places s.literal.var None)
+held_pop n steps places s H = record {
   small = H.small;
   in_range = all_front (InRange n) steps (s ∷ []) H.in_range;
   apart = pairs_front Apart steps (s ∷ []) H.apart;
-  wide = length-set found s.literal.var None ∙ H.wide;
+  wide = length-set places s.literal.var None ∙ H.wide;
   same = λ w. by_var w (cases_eq s.literal.var w);
 }
   where
     range : IsVariable n s.literal.var
     range = last_range n steps s H.in_range
 
-    by_var : (w : ℕ) → (s.literal.var ≡ w) ⊎ (s.literal.var ≢ w) → get_or (set found s.literal.var None) w None ≡ step_of steps w
+    by_var : (w : ℕ) → (s.literal.var ≡ w) ⊎ (s.literal.var ≢ w) → get_or (set places s.literal.var None) w None ≡ place_of steps w
     by_var w (inl e) =
-        subst (λ x. get_or (set found s.literal.var None) x None ≡ step_of steps x) e
-        (let b = H.wide in let c = range.1 in get_or-set_same found s.literal.var None None (omega arith) ∙ sym (unfound steps s.literal.var (last_unassigned steps s H.apart)))
-    by_var w (inr m) = get_or-set_other found s.literal.var w None None (λ e. m (sym e)) ∙ (H.same w ∙ found_other steps s w m)
+        subst (λ x. get_or (set places s.literal.var None) x None ≡ place_of steps x) e
+        (let b = H.wide in let c = range.1 in get_or-set_same places s.literal.var None None (omega arith) ∙ sym (unplaced steps s.literal.var (last_unassigned steps s H.apart)))
+    by_var w (inr m) = get_or-set_other places s.literal.var w None None (λ e. m (sym e)) ∙ (H.same w ∙ placed_other steps s w m)

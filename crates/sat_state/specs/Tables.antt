@@ -4,22 +4,22 @@ use Rattle.log_law.specs.declared.Lit.{Lit}
 use Rattle.log_law.specs.Clauses.{Clause, negated, IsVariable, IsClause}
 use Rattle.log_law.specs.Units.{Partial, remaining, IsFalsified, IsUnit, IsStill}
 use Rattle.log_law.specs.declared.Step.{Step}
-use Rattle.log_law.specs.Trails.{step_at, step_of, literals}
+use Rattle.log_law.specs.Trails.{step_at, place_of, literals}
 use Rattle.sat_state.specs.Searches.{Search, IsSearch}
 use Rattle.sat_state.specs.declared.look.Look.{Look}
 use Rattle.sat_state.specs.declared.look.Look.TheVariants.{Falsified, Unit as OneLeft, Still}
 
--- ---- the steps, and for each variable the one about it
+-- ---- the steps, and for each variable the place of the one about it
 pub record Held : Type 0 where
   pub variables : ℕ
   pub steps : List Step
 
-pub record IsHeld (variables : ℕ) (steps : List Step) (found : List (Option Step)) : Type 0 where
+pub record IsHeld (variables : ℕ) (steps : List Step) (places : List (Option ℕ)) : Type 0 where
   pub small : variables < 2 ^ 32
   pub in_range : All (λ step. IsVariable variables step.literal.var) steps
   pub apart : AllPairs (λ s t. s.literal.var ≢ t.literal.var) steps
-  pub wide : length found ≡ variables + 1
-  pub same : (v : ℕ) → slice_index_or found v None ≡ step_of steps v
+  pub wide : length places ≡ variables + 1
+  pub same : (v : ℕ) → slice_index_or places v None ≡ place_of steps v
 
 -- ---- for each literal the numbers of the clauses that have it
 abbrev pub slot : Lit → ℕ

@@ -1,10 +1,10 @@
 // The state of a search: clauses, a trail, and a level.
-ghost use Rattle.std.specs.Prelude.{◌≡◌, ◌≢◌, ℕ, ◌+◌, ◌<◌, ◌≤◌, ◌++◌, ◌∷◌, [], None, length, filter, nat_le, Contains, MatchOption, IfOk, OnOk, OnErr};
+ghost use Rattle.std.specs.Prelude.{◌≡◌, ◌≢◌, ℕ, ◌+◌, ◌<◌, ◌≤◌, ◌++◌, ◌∷◌, [], None, length, drop, filter, nat_le, Contains, MatchOption, IfOk, OnOk, OnErr};
 ghost use Rattle.log_law.specs.declared.Lit.{Lit as Literal};
 ghost use Rattle.log_law.specs.Clauses.{IsVariable, IsClause};
 ghost use Rattle.log_law.specs.Units.{value as value_of, IsUnassigned, IsAtRest};
 ghost use Rattle.log_law.specs.Logs.{IsIdentifier, clause_at};
-ghost use Rattle.log_law.specs.Trails.{step_at, literals, level_of, reason_of};
+ghost use Rattle.log_law.specs.Trails.{step_at, literals, place_of, level_of, reason_of};
 ghost use Rattle.log_law.specs.SearchLaws.{IsConflict, IsFresh};
 ghost use Rattle.sat_state.specs.Searches.{IsSearch, GoesOn, MayLearn};
 ghost use Rattle.sat_state.specs.Tables.{IsLevelled};
@@ -20,7 +20,7 @@ use std::marker::Model;
 /// by a unit step from a clause. A variable counts from 1, a clause's identifier too, and a place on the trail from 0.
 ///
 /// The clauses of the formula are copied once, when the state is made. Room for a trail of all variables is made there
-/// too, so that only [`State::learn`] takes memory from then on.
+/// too, so that from then on only [`State::learn`] takes memory, and [`State::into_clauses`] at the end.
 #[derive(Drop)]
 pub struct State {
     table: Table,
@@ -148,6 +148,15 @@ impl State {
         Ok(id)
     }
 
+    /// The clauses after the first so many, in their order, and nothing else of the state. No clause is copied.
+    pub fn into_clauses(self, from: u32) -> Result<Vec<Clause>, AllocError>
+        requires { from ≤ length self.clauses }
+        ensures { IfOk result (λ clauses. clauses.items ≡ drop from self.clauses) }
+    {
+        let mut clauses = self.table.into_clauses();
+        clauses.split_off(from as usize)
+    }
+
     /// The present level: the number of decisions that stand.
     pub fn level(&self) -> u32
         ensures level { result ≡ self.now.level }
@@ -171,6 +180,14 @@ impl State {
         ensures { result ≡ (step_at self.now.trail i).literal }
     {
         self.table.steps().at(i as usize).literal
+    }
+
+    /// The place on the trail of the step about a variable.
+    pub fn place(&self, var: u32) -> Option<u32>
+        requires { IsVariable self.now.variables var }
+        ensures { result ≡ place_of self.now.trail var }
+    {
+        self.table.steps().place(var)
     }
 
     /// Whether a variable is true, where it is assigned.

@@ -1,8 +1,8 @@
-// The steps of a trail, with the step about each variable at hand.
+// The steps of a trail, with the place of the step about each variable at hand.
 ghost use Rattle.std.specs.Prelude.{◌≡◌, ℕ, ◌+◌, ◌<◌, ◌≤◌, ◌^◌, ◌++◌, ◌∷◌, [], None, length, slice_index_or, IfOk};
 ghost use Rattle.log_law.specs.Clauses.{IsVariable};
 ghost use Rattle.log_law.specs.Units.{value as value_of, opposes, IsUnassigned};
-ghost use Rattle.log_law.specs.Trails.{literals, step_at, step_of};
+ghost use Rattle.log_law.specs.Trails.{literals, step_at, step_of, place_of};
 ghost use Rattle.sat_state.specs.Tables.{Held};
 
 use log_law::{Lit, Step};
@@ -14,7 +14,8 @@ use std::marker::Model;
 pub(crate) struct Steps {
     vars: u32,
     steps: Vec<Step>,
-    found: Vec<Option<Step>>,
+    // for each variable where the step about it stands
+    places: Vec<Option<u32>>,
 }
 
 impl Model for Steps {
@@ -25,11 +26,11 @@ impl Model for Steps {
 
     ghost view = { λ s. record { variables = s.vars; steps = s.steps.items } };
 
-    ghost invariant = { λ s. IsHeld s.vars s.steps.items s.found.items × (s.vars ≤ vec_capacity s.steps) };
+    ghost invariant = { λ s. IsHeld s.vars s.steps.items s.places.items × (s.vars ≤ vec_capacity s.steps) };
 }
 
-// So many places without a step.
-fn no_steps(alloc: Global, count: usize) -> Result<Vec<Option<Step>>, AllocError>
+// The places of the steps about so many variables, none of which has one.
+fn no_places(alloc: Global, count: usize) -> Result<Vec<Option<u32>>, AllocError>
     ensures wide { IfOk result (λ made. length made.items ≡ count) }
     ensures empty { IfOk result (λ made. (v : ℕ) → slice_index_or made.items v None ≡ None) }
 {
@@ -45,8 +46,12 @@ impl Steps {
         ensures { IfOk result (λ made. made ≡ record { variables = vars; steps = [] }) }
     {
         let steps = Vec::with_capacity(alloc, vars as usize)?;
-        let found = no_steps(alloc, vars as usize + 1)?;
-        Ok(Steps { vars, steps, found })
+        let places = no_places(alloc, vars as usize + 1)?;
+        Ok(Steps {
+            vars,
+            steps,
+            places,
+        })
     }
 
     #[cfg(test)]
@@ -72,12 +77,23 @@ impl Steps {
         self.steps[i]
     }
 
+    // The place of the step about a variable.
+    pub fn place(&self, var: u32) -> Option<u32>
+        requires { IsVariable self.now.variables var }
+        ensures { result ≡ place_of self.now.steps var }
+    {
+        self.places[var as usize]
+    }
+
     // The step about a variable.
     pub fn find(&self, var: u32) -> Option<Step>
         requires { IsVariable self.now.variables var }
         ensures { result ≡ step_of self.now.steps var }
     {
-        self.found[var as usize]
+        match self.place(var) {
+            Some(place) => Some(self.steps[place as usize]),
+            None => None,
+        }
     }
 
     pub fn value(&self, var: u32) -> Option<bool>
@@ -107,7 +123,7 @@ impl Steps {
         requires unassigned { IsUnassigned (literals self.old.steps) step.literal }
         ensures { self.new ≡ record self.old { steps = self.old.steps ++ step ∷ [] } }
     {
-        self.found[step.literal.var as usize] = Some(step);
+        self.places[step.literal.var as usize] = Some(self.steps.len() as u32);
         self.steps.push_reserved(step);
     }
 
@@ -120,7 +136,7 @@ impl Steps {
     {
         match self.steps.pop() {
             Some(step) => {
-                self.found[step.literal.var as usize] = None;
+                self.places[step.literal.var as usize] = None;
                 step
             },
             None => unreachable!(),

@@ -81,6 +81,13 @@ impl Table {
         &self.clauses[c]
     }
 
+    // The clauses, and nothing else of the table.
+    pub fn into_clauses(self) -> Vec<Clause>
+        ensures { result.items ≡ self.clauses }
+    {
+        self.clauses
+    }
+
     // The number of clauses that have the negation of a literal.
     pub fn users(&self, l: Lit) -> usize
         requires { IsVariable self.now.variables l.var }

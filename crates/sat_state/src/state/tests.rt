@@ -130,6 +130,14 @@ fn reason_at(state: &State, var: u32) -> Option<u32> {
     }
 }
 
+fn place(state: &State, var: u32) -> Option<u32> {
+    if has(state, var) {
+        state.place(var)
+    } else {
+        None
+    }
+}
+
 fn var_at(state: &State, i: u32) -> u32 {
     if i < state.trail_len() {
         state.trail_at(i).var
@@ -163,6 +171,9 @@ fn three_steps_and_a_conflict(rt: HostRuntime) -> Result<(), Fail> {
     assert_eq!(rt; state.trail_len(), 4);
     assert_eq!(rt; var_at(&state, 0), 1);
     assert_eq!(rt; var_at(&state, 1), 2);
+    assert!(rt; place(&state, 1) == Some(0));
+    assert!(rt; place(&state, 2) == Some(1));
+    assert!(rt; place(&state, 5).is_none());
     assert!(rt; reason_at(&state, 1).is_none());
     assert!(rt; reason_at(&state, 2) == Some(1));
     assert!(rt; level_at(&state, 3) == Some(1));
@@ -181,6 +192,8 @@ fn back_keeps_the_lower_level(rt: HostRuntime) -> Result<(), Fail> {
     goes_back(&mut state, 1);
     assert_eq!(rt; state.level(), 1);
     assert_eq!(rt; state.trail_len(), 1);
+    assert!(rt; place(&state, 5) == Some(0));
+    assert!(rt; place(&state, 3).is_none());
     assert!(rt; value(&state, 5) == Some(true));
     assert!(rt; value(&state, 3).is_none());
     assert!(rt; state.spread().is_none());
@@ -200,5 +213,28 @@ fn a_learnt_unit_clause_is_asserted(rt: HostRuntime) -> Result<(), Fail> {
     assert!(rt; reason_at(&state, 2) == Some(5));
     assert!(rt; value(&state, 1) == Some(false));
     assert!(rt; level_at(&state, 1) == Some(0));
+    Ok(())
+}
+
+// The first literal of the first clause.
+fn first_of(clauses: &[Clause]) -> Option<Lit> {
+    match clauses.first() {
+        Some(clause) => if clause.is_empty() {
+            None
+        } else {
+            Some(*clause.at(0))
+        },
+        None => None,
+    }
+}
+
+#[test]
+fn the_last_clauses_are_given_away(rt: HostRuntime) -> Result<(), Fail> {
+    let cnf = pairs(rt.alloc(), 3, &[(1, 2), (-1, 3), (2, 3)])?;
+    let count = cnf.len();
+    let state = State::of(rt.alloc(), &cnf)?;
+    let last = state.into_clauses(count.min(2))?;
+    assert_eq!(rt; last.len(), 1);
+    assert_eq!(rt; first_of(&last), Some(lit(2)));
     Ok(())
 }

@@ -1,30 +1,22 @@
-use Rattle.std.proofs.Common.{◌+◌, not, sym, ◌∙◌, subst, arith}
-use Rattle.sat_search.proofs.LeftOver.{AreLeft, Ascend, left_none, left_unmarked, left_unassigned, left_more, ascend_more, left_all}
+use Rattle.std.proofs.Common.{rules, ◌∙◌, ◌<◌, sym, subst}
+use Rattle.std.specs.Prelude.{AllPairs}
+use Rattle.std.proofs.lemmas.List.Sorted.{IsNonDecreasingBy-from_sort_by_key}
+use Rattle.std.proofs.lemmas.Result.{IfOk-weaker}
+use Rattle.log_law.specs.Clauses.{Clause}
+use Rattle.log_law.specs.Trails.{HaveSame, negated_at}
+use Rattle.sat_search.proofs.LeftOver.{left_sorted, left_same}
 use Rattle.sat_search.proofs.left.literals_left.Goals as goal
-use Rattle.sat_search.proofs.left.literals_left.Goals.{then-seen-var+in-Some+in_ok-push, then-seen-var+in_default, else-seen-var}
 
-pub loop-v-init : goal.loop-v-init
-loop-v-init c = record {
-  left = subst (AreLeft c.args.state.now c.args.seen.now 0) (sym c.make-clause.ensures) (left_none c.args.state.now c.args.seen.now);
-  sorted = subst Ascend (sym c.make-clause.ensures) (λ i j d b l. absurd (omega arith));
-}
-
-pub loop-v-preserved : goal.loop-v-preserved
-loop-v-preserved c =
-    elim c.if-seen-var.branch [
-      | then-seen-var+in-Some+in_ok-push w ↦ record {
-        left = left_more c.args.state.now c.args.seen.now c.loop-v.v c.loop-v.clause c.if-seen-var.clause w.value.result w.in-Some.on w.if-seen-var.true w.value.ensures w.in-Some.is (w.clause-is ∙ w.in_ok-push.ensures.ok) c.loop-v.invariant.left;
-        sorted = ascend_more c.args.state.now c.args.seen.now c.loop-v.v c.loop-v.clause c.if-seen-var.clause (not w.in-Some.on) (w.clause-is ∙ w.in_ok-push.ensures.ok) c.loop-v.invariant.left c.loop-v.invariant.sorted;
-      }
-      | then-seen-var+in_default w ↦ record {
-        left = subst (AreLeft c.args.state.now c.args.seen.now (c.loop-v.v + 1)) (sym w.clause-is) (left_unassigned c.args.state.now c.args.seen.now c.loop-v.v c.loop-v.clause w.value.result w.value.ensures w.in_default.is c.loop-v.invariant.left);
-        sorted = subst Ascend (sym w.clause-is) c.loop-v.invariant.sorted;
-      }
-      | else-seen-var w ↦ record {
-        left = subst (AreLeft c.args.state.now c.args.seen.now (c.loop-v.v + 1)) (sym w.clause-is) (left_unmarked c.args.state.now c.args.seen.now c.loop-v.v c.loop-v.clause w.if-seen-var.false c.loop-v.invariant.left);
-        sorted = subst Ascend (sym w.clause-is) c.loop-v.invariant.sorted;
-      }
-    ]
+pub returns-clause-sorted : goal.returns-clause-sorted
+returns-clause-sorted c = IfOk-weaker c.clause_of.result _ _ (λ clause e. subst (λ (d : Clause). AllPairs (λ k l. k.var < l.var) d) (sym (e ∙ c.deref.ensures.value)) sorted) c.clause_of.ensures
+  where
+    sorted : AllPairs (λ k l. k.var < l.var) c.sort_unstable_by_key.new.self.items
+    sorted =
+        left_sorted c.args.state.now c.requires.search c.args.places.now c.requires.within c.requires.descending c.in_ok-lits.lits.items c.sort_unstable_by_key.new.self.items c.in_ok-lits.ensures c.sort_unstable_by_key.ensures.permutation
+        (IsNonDecreasingBy-from_sort_by_key (λ l. l.var) _ c.sort_unstable_by_key.ensures.sorted (λ a r q k. search rules))
 
 pub returns-clause-same : goal.returns-clause-same
-returns-clause-same c = left_all c.args.state.now c.args.seen.now c.loop-v.v c.args.vars c.loop-v.clause c.requires.search c.requires.vars c.loop-v-test.false c.loop-v.auto.v-end c.loop-v.invariant.left
+returns-clause-same c = IfOk-weaker c.clause_of.result _ _ (λ clause e. subst (λ (d : Clause). HaveSame d (negated_at c.args.state.now.trail c.args.places.now)) (sym (e ∙ c.deref.ensures.value)) same) c.clause_of.ensures
+  where
+    same : HaveSame c.sort_unstable_by_key.new.self.items (negated_at c.args.state.now.trail c.args.places.now)
+    same = left_same c.args.state.now c.requires.search c.args.places.now c.requires.within c.requires.descending c.in_ok-lits.lits.items c.sort_unstable_by_key.new.self.items c.in_ok-lits.ensures c.sort_unstable_by_key.ensures.permutation

@@ -1,28 +1,17 @@
-use Rattle.std.proofs.Common.{◌≡◌, ℕ, ◌+◌, ◌++◌, Bool, false, List, [], length, take, drop, replicate, sym, ap, ◌∙◌, subst, arith}
-use Rattle.std.proofs.lemmas.List.{take_at, length-replicate}
-use Rattle.sat_search.specs.Resolutions.{is_marked, is_of, tally, IsResolving}
-use Rattle.sat_search.proofs.Tallies.{tally_none}
-use Rattle.sat_search.proofs.Marking.{IsMarkedBy}
-use Rattle.sat_search.proofs.BackSteps.{none_marked, told_clause, begun}
+use Rattle.std.proofs.Common.{ℕ, List, [], sym, subst}
+use Rattle.log_law.specs.Clauses.{Clause}
+use Rattle.log_law.specs.Logs.{clause_at}
+use Rattle.sat_search.specs.Resolutions.{IsResolving}
+use Rattle.sat_search.proofs.Resolving.{AreAdded, told_clause, begun}
 use Rattle.sat_search.proofs.resolution.begin.Goals as goal
 
-pub mark_clause-count-requires-clause-fits : goal.mark_clause-count-requires-clause-fits
-mark_clause-count-requires-clause-fits c = told_clause c.args.state.now c.requires.search c.args.conflict c.clause.result.now c.requires.conflict.identifier c.clause.ensures
+pub add_places-requires-clause-fits : goal.add_places-requires-clause-fits
+add_places-requires-clause-fits c = told_clause c.args.state.now c.requires.search c.args.conflict c.clause.result.now c.requires.conflict.identifier c.clause.ensures
 
-pub mark_clause-count-requires-clause-counted : goal.mark_clause-count-requires-clause-counted
-mark_clause-count-requires-clause-counted c =
-    sym (ap (tally (is_of c.args.state.now c.args.state.now.level)) (c.deref_mut.ensures.value ∙ c.in_ok-seen.ensures)
-    ∙ tally_none (is_of c.args.state.now c.args.state.now.level) (replicate (c.args.vars + 1) false) (none_marked (c.args.vars + 1)))
-
-pub returns : goal.returns
-returns c =
-    let long : length c.mark_clause-count.new.seen ≡ c.in_ok-seen.seen.len = omega arith in
-    let wide : length c.mark_clause-count.new.seen ≡ c.args.state.now.variables + 1 =
-    c.mark_clause-count.auto.seen ∙ (ap length (c.deref_mut.ensures.value ∙ c.in_ok-seen.ensures) ∙ (length-replicate (c.args.vars + 1) false ∙ ap (λ (n : ℕ). n + 1) c.requires.vars)) in
-    subst (λ (xs : List ℕ). IsResolving c.args.state.now c.args.conflict (length c.args.state.now.trail) (take c.in_ok-seen.seen.len (c.mark_clause-count.new.seen ++ drop (length c.mark_clause-count.new.seen) c.in_ok-seen.seen.items)) c.mark_clause-count.result xs) (sym c.new.ensures.items)
-    (subst (λ (xs : List Bool). IsResolving c.args.state.now c.args.conflict (length c.args.state.now.trail) xs c.mark_clause-count.result []) (sym (take_at c.mark_clause-count.new.seen (drop (length c.mark_clause-count.new.seen) c.in_ok-seen.seen.items) c.in_ok-seen.seen.len long))
-    (begun c.args.state.now c.requires.search c.args.conflict c.mark_clause-count.result c.deref_mut.result.now c.mark_clause-count.new.seen c.requires.conflict
-    (λ v m. none_marked (c.args.vars + 1) v (sym (ap (λ (b : List Bool). is_marked b v) (c.deref_mut.ensures.value ∙ c.in_ok-seen.ensures)) ∙ m))
-    wide
-    (subst (IsMarkedBy c.deref_mut.result.now c.mark_clause-count.new.seen) c.clause.ensures c.mark_clause-count.ensures.marked)
-    c.mark_clause-count.ensures.counted))
+pub returns-clause-resolving : goal.returns-clause-resolving
+returns-clause-resolving c =
+    subst (λ (ls : List ℕ). IsResolving c.args.state.now c.args.conflict c.add_places.new.pending.keys ls c.new-2.result.items) (sym c.new.ensures.items)
+    (subst (λ (rs : List ℕ). IsResolving c.args.state.now c.args.conflict c.add_places.new.pending.keys [] rs) (sym c.new-2.ensures.items)
+    (begun c.args.state.now c.requires.search c.args.conflict c.trail_len.result c.add_places.new.pending.keys c.requires.conflict c.trail_len.ensures.steps
+    (subst (λ (ks : List ℕ). AreAdded c.args.state.now (clause_at c.args.state.now.clauses c.args.conflict) c.trail_len.result ks c.add_places.new.pending.keys) c.new-pending.ensures.empty
+    (subst (λ (d : Clause). AreAdded c.args.state.now d c.trail_len.result c.new-pending.result.keys c.add_places.new.pending.keys) c.clause.ensures c.in_ok-add_places.ensures))))

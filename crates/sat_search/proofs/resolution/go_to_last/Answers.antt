@@ -1,43 +1,56 @@
-use Rattle.std.proofs.Common.{◌≡◌, ℕ, ◌+◌, ◌-◌, ◌<◌, true, length, subst, arith}
+use Rattle.std.proofs.Common.{ℕ, List, refl, sym, ◌∙◌, subst}
+use Rattle.log_law.specs.SearchLaws.{IsConflict}
 use Rattle.sat_search.specs.Resolutions.{IsResolving}
-use Rattle.sat_search.proofs.BackSteps.{IsClear, read_mark, has_reason, is_last, never_none, clear_back}
+use Rattle.sat_search.proofs.Resolving.{below_popped, end_less, none_popped, rest_within, stayed, never_none, has_reason, is_last}
 use Rattle.sat_search.proofs.resolution.go_to_last.Goals as goal
 
-pub returns-then-r-eq1-clause-last : goal.returns-then-r-eq1-clause-last
-returns-then-r-eq1-clause-last c =
-    let b : c.loop-place.place - 1 < length c.args.state.now.trail = omega arith in
-    let e : c.loop-place.place ≡ c.loop-place.place - 1 + 1 = omega arith in
-    is_last c.args.state.now c.trail_len-place.ensures.search c.args.conflict (c.loop-place.place - 1) c.loop-place.r.count c.loop-place.r.seen.items c.loop-place.r.reasons.items c.requires.above c.requires.conflict
-    (subst (λ (p : ℕ). IsResolving c.args.state.now c.args.conflict p c.loop-place.r.seen.items c.loop-place.r.count c.loop-place.r.reasons.items) e c.loop-place.invariant.resolving)
-    (subst (λ (p : ℕ). IsClear c.args.state.now c.loop-place.r.seen.items p) e c.loop-place.invariant.clear) b
-    (read_mark c.args.state.now c.trail_len-place.ensures.search (c.loop-place.place - 1) c.trail_at-var.result c.loop-place.r.seen.items c.index.result.now true b c.trail_at-var.ensures c.loop-place.invariant.resolving.wide c.index.ensures c.if-index.true)
-    c.if-r-eq1.true
+pub loop-place-init : goal.loop-place-init
+loop-place-init c = record { conflict = refl; left = c.requires.left; resolving = c.requires.resolving }
+
+pub are_lower-requires-clause-within : goal.are_lower-requires-clause-within
+are_lower-requires-clause-within c =
+    let R = subst (λ (ks : List ℕ). IsResolving c.args.state.now c.loop-place.r.conflict ks c.loop-place.r.left.items c.loop-place.r.reasons.items) c.in-Some.ensures.removal c.loop-place.invariant.resolving in
+    let last = below_popped c.pop_last.new.self.keys c.in-Some.place c.in-Some.ensures.all_below in
+    rest_within c.args.state.now c.requires.search c.loop-place.r.conflict c.in-Some.place c.pop_last.new.self.keys c.loop-place.r.left.items c.loop-place.r.reasons.items R last
+
+pub returns-then-are_lower-clause-conflict : goal.returns-then-are_lower-clause-conflict
+returns-then-are_lower-clause-conflict c = c.loop-place.invariant.conflict
+
+pub returns-then-are_lower-clause-last : goal.returns-then-are_lower-clause-last
+returns-then-are_lower-clause-last c =
+    let R = subst (λ (ks : List ℕ). IsResolving c.args.state.now c.loop-place.r.conflict ks c.loop-place.r.left.items c.loop-place.r.reasons.items) c.in-Some.ensures.removal c.loop-place.invariant.resolving in
+    let last = below_popped c.pop_last.new.self.keys c.in-Some.place c.in-Some.ensures.all_below in
+    let X = subst (λ (n : ℕ). IsConflict c.args.state.now.clauses c.args.state.now.trail n) (sym c.loop-place.invariant.conflict) c.requires.conflict in
+    is_last c.args.state.now c.requires.search c.loop-place.r.conflict c.in-Some.place c.pop_last.new.self.keys c.loop-place.r.left.items c.loop-place.r.reasons.items c.requires.above X R last c.loop-place.invariant.left c.push.new.self.items c.in_ok-push.ensures.items (c.are_lower.ensures.lower c.if-are_lower.true)
+
+pub returns-then-are_lower-clause-resolving : goal.returns-then-are_lower-clause-resolving
+returns-then-are_lower-clause-resolving c =
+    let R = subst (λ (ks : List ℕ). IsResolving c.args.state.now c.loop-place.r.conflict ks c.loop-place.r.left.items c.loop-place.r.reasons.items) c.in-Some.ensures.removal c.loop-place.invariant.resolving in
+    let last = below_popped c.pop_last.new.self.keys c.in-Some.place c.in-Some.ensures.all_below in
+    stayed c.args.state.now c.requires.search c.loop-place.r.conflict c.in-Some.place c.pop_last.new.self.keys c.loop-place.r.left.items c.loop-place.r.reasons.items R last c.push.new.self.items c.in_ok-push.ensures.items
+
+pub go_back-requires-clause-resolving : goal.go_back-requires-clause-resolving
+go_back-requires-clause-resolving c = subst (λ (ks : List ℕ). IsResolving c.args.state.now c.loop-place.r.conflict ks c.loop-place.r.left.items c.loop-place.r.reasons.items) c.in-Some.ensures.removal c.loop-place.invariant.resolving
 
 pub go_back-requires-clause-reason : goal.go_back-requires-clause-reason
 go_back-requires-clause-reason c =
-    let b : c.loop-place.place - 1 < length c.args.state.now.trail = omega arith in
-    let e : c.loop-place.place ≡ c.loop-place.place - 1 + 1 = omega arith in
-    has_reason c.args.state.now c.trail_len-place.ensures.search c.args.conflict (c.loop-place.place - 1) c.loop-place.r.count c.loop-place.r.seen.items c.loop-place.r.reasons.items c.requires.above c.requires.conflict
-    (subst (λ (p : ℕ). IsResolving c.args.state.now c.args.conflict p c.loop-place.r.seen.items c.loop-place.r.count c.loop-place.r.reasons.items) e c.loop-place.invariant.resolving)
-    (subst (λ (p : ℕ). IsClear c.args.state.now c.loop-place.r.seen.items p) e c.loop-place.invariant.clear) b
-    (read_mark c.args.state.now c.trail_len-place.ensures.search (c.loop-place.place - 1) c.trail_at-var.result c.loop-place.r.seen.items c.index.result.now true b c.trail_at-var.ensures c.loop-place.invariant.resolving.wide c.index.ensures c.if-index.true)
-    c.if-r-eq1.false
+    let R = subst (λ (ks : List ℕ). IsResolving c.args.state.now c.loop-place.r.conflict ks c.loop-place.r.left.items c.loop-place.r.reasons.items) c.in-Some.ensures.removal c.loop-place.invariant.resolving in
+    let last = below_popped c.pop_last.new.self.keys c.in-Some.place c.in-Some.ensures.all_below in
+    let X = subst (λ (n : ℕ). IsConflict c.args.state.now.clauses c.args.state.now.trail n) (sym c.loop-place.invariant.conflict) c.requires.conflict in
+    has_reason c.args.state.now c.requires.search c.loop-place.r.conflict c.in-Some.place c.pop_last.new.self.keys c.loop-place.r.left.items c.loop-place.r.reasons.items c.requires.above X R last c.loop-place.invariant.left (c.are_lower.ensures.another c.if-are_lower.false)
 
-pub loop-place-preserved-in-Continue-1 : goal.loop-place-preserved-in-Continue-1
-loop-place-preserved-in-Continue-1 c =
-    let b : c.loop-place.place - 1 < length c.args.state.now.trail = omega arith in
-    let e : c.loop-place.place ≡ c.loop-place.place - 1 + 1 = omega arith in
-    let R = subst (λ (p : ℕ). IsResolving c.args.state.now c.args.conflict p c.loop-place.r.seen.items c.loop-place.r.count c.loop-place.r.reasons.items) e c.loop-place.invariant.resolving in
-    let K = subst (λ (p : ℕ). IsClear c.args.state.now c.loop-place.r.seen.items p) e c.loop-place.invariant.clear in
-    record {
-      within = omega arith;
-      resolving = c.in_ok-go_back.ensures.resolving;
-      clear = clear_back c.args.state.now c.trail_len-place.ensures.search c.loop-place.r.seen.items c.go_back.new.r.seen.items (c.loop-place.place - 1) b
-          (has_reason c.args.state.now c.trail_len-place.ensures.search c.args.conflict (c.loop-place.place - 1) c.loop-place.r.count c.loop-place.r.seen.items c.loop-place.r.reasons.items c.requires.above c.requires.conflict R K b
-          (read_mark c.args.state.now c.trail_len-place.ensures.search (c.loop-place.place - 1) c.trail_at-var.result c.loop-place.r.seen.items c.index.result.now true b c.trail_at-var.ensures c.loop-place.invariant.resolving.wide c.index.ensures c.if-index.true)
-          c.if-r-eq1.false)
-          c.in_ok-go_back.ensures.marks K;
-    }
+pub loop-place-smaller : goal.loop-place-smaller
+loop-place-smaller c = end_less c.loop-place.r.pending.keys c.go_back.new.r.pending.keys c.pop_last.new.self.keys c.in-Some.place c.in-Some.ensures.removal (below_popped c.pop_last.new.self.keys c.in-Some.place c.in-Some.ensures.all_below) c.in_ok-go_back.ensures.pending
+
+pub loop-place-preserved : goal.loop-place-preserved
+loop-place-preserved c = record {
+  conflict = c.in_ok-go_back.ensures.conflict ∙ c.loop-place.invariant.conflict;
+  left = c.in_ok-go_back.ensures.left ∙ c.loop-place.invariant.left;
+  resolving = c.in_ok-go_back.ensures.resolving;
+}
 
 pub unreachable-requires : goal.unreachable-requires
-unreachable-requires c = never_none c.args.state.now c.trail_len-place.ensures.search c.args.conflict c.loop-place.place c.loop-place.r.count c.loop-place.r.seen.items c.loop-place.r.reasons.items c.requires.above c.requires.conflict c.loop-place.invariant.resolving c.loop-place.invariant.clear c.loop-place-test.false
+unreachable-requires c =
+    let X = subst (λ (n : ℕ). IsConflict c.args.state.now.clauses c.args.state.now.trail n) (sym c.loop-place.invariant.conflict) c.requires.conflict in
+    never_none c.args.state.now c.requires.search c.loop-place.r.conflict c.loop-place.r.pending.keys c.loop-place.r.left.items c.loop-place.r.reasons.items c.requires.above X c.loop-place.invariant.resolving c.loop-place.invariant.left
+    (none_popped c.loop-place.r.pending.keys c.pop_last.result c.pop_last.ensures.variant c.in_default.is)

@@ -1,9 +1,11 @@
 use Rattle.std.proofs.Common.{◌≡◌, ◌+◌, ◌-◌, length}
+use Rattle.log_law.specs.Trails.{literals}
+use Rattle.sat_search.specs.Choices.{IsReady}
 use Rattle.sat_search.proofs.search.go_on.Given as goal
 
 abbrev pub invariant-loop-falsified : goal.invariant-loop-falsified
 invariant-loop-falsified l = record {
-  order : l.order ≡ l.initial.order;
+  ready : IsReady l.state.variables (literals l.state.trail) l.order;
   same : l.state ≡ record l.initial.state { trail = l.state.trail; level = l.state.level };
 }
 
