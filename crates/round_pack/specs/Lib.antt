@@ -2,7 +2,6 @@ pub mod Chains
 pub mod Counts
 pub mod Follows
 pub mod Groups
-pub mod Lending
 pub mod Slots
 pub mod States
 pub mod Tracks

@@ -1,6 +1,7 @@
 // The lists of which formulas, assignments and logs are made.
 ghost use Rattle.std.specs.Prelude.{◌≡◌, ◌↔◌, ℕ, ◌<◌, ◌^◌, ◌++◌, ◌∷◌, [], length, slice_get, Some, IsTrue, OnOk, OnErr, IfOk};
 
+use item_list::{Copied, ItemList};
 use log_law::Lit;
 use std::alloc::{AllocError, Global};
 use std::marker::Model;
@@ -150,68 +151,7 @@ impl Hints {
 }
 
 /// An assignment, seen as the list of its truth values: place `v - 1` is for variable `v`.
-#[derive(Debug, Drop)]
-pub struct Truth {
-    items: Vec<bool>,
-}
-
-impl Model for Truth {
-    ghost use Rattle.std.specs.Prelude.{List, Bool};
-
-    ghost Value = { List Bool };
-
-    ghost view = { λ t. t.items.items };
-}
-
-impl Truth {
-    /// The empty list.
-    pub fn make(alloc: Global) -> Self
-        ensures { result ≡ [] }
-    {
-        Truth {
-            items: Vec::new(alloc),
-        }
-    }
-
-    /// The number of truth values.
-    pub fn len(&self) -> usize
-        ensures { result ≡ length self.now }
-    {
-        self.items.len()
-    }
-
-    pub fn is_empty(&self) -> bool
-        ensures { IsTrue result ↔ (self.now ≡ []) }
-    {
-        self.items.is_empty()
-    }
-
-    /// The value at a place, counted from 0: that of variable `i + 1`.
-    pub fn at(&self, i: usize) -> &bool
-        requires { i < length self.now }
-        ensures { slice_get self.now i ≡ Some result.now }
-    {
-        &self.items[i]
-    }
-
-    /// Puts a truth value at the end.
-    pub fn push(&mut self, x: bool) -> Result<(), AllocError>
-        ensures ok { OnOk result (self.new ≡ self.old ++ x ∷ []) }
-        ensures err { OnErr result (self.new ≡ self.old) }
-    {
-        self.items.push(x)?;
-        Ok(())
-    }
-
-    /// An equal list.
-    pub fn copy(&self) -> Result<Self, AllocError>
-        ensures { IfOk result (λ made. made ≡ self.now) }
-    {
-        Ok(Truth {
-            items: self.items.clone()?,
-        })
-    }
-}
+pub type Truth = ItemList<bool>;
 
 /// A line of a log: its identifier, the literals of the clause that it adds, and its hints.
 #[derive(Debug, Drop)]
@@ -242,70 +182,11 @@ impl Line {
     }
 }
 
+impl Copied for Line {
+    fn copy(&self) -> Result<Self, AllocError> {
+        Line::copy(self)
+    }
+}
+
 /// A log, seen as the list of its lines. A line counts from 0.
-#[derive(Debug, Drop)]
-pub struct Log {
-    items: Vec<Line>,
-}
-
-impl Model for Log {
-    ghost use Rattle.std.specs.Prelude.{List};
-    ghost use Rattle.log_law.specs.Logs.{Line as LogLine};
-
-    ghost Value = { List LogLine };
-
-    ghost view = { λ l. l.items.items };
-}
-
-impl Log {
-    /// The log of no line.
-    pub fn make(alloc: Global) -> Self
-        ensures { result ≡ [] }
-    {
-        Log {
-            items: Vec::new(alloc),
-        }
-    }
-
-    /// The number of lines.
-    pub fn len(&self) -> usize
-        ensures { result ≡ length self.now }
-    {
-        self.items.len()
-    }
-
-    pub fn is_empty(&self) -> bool
-        ensures { IsTrue result ↔ (self.now ≡ []) }
-    {
-        self.items.is_empty()
-    }
-
-    /// The line at a place, counted from 0.
-    pub fn at(&self, i: usize) -> &Line
-        requires { i < length self.now }
-        ensures { slice_get self.now i ≡ Some result.now }
-    {
-        &self.items[i]
-    }
-
-    /// Puts a line at the end.
-    pub fn push(&mut self, x: Line) -> Result<(), AllocError>
-        ensures ok { OnOk result (self.new ≡ self.old ++ x ∷ []) }
-        ensures err { OnErr result (self.new ≡ self.old) }
-    {
-        self.items.push(x)?;
-        Ok(())
-    }
-
-    /// An equal log, in time linear in its literals and hints.
-    pub fn copy(&self) -> Result<Self, AllocError>
-        ensures { IfOk result (λ made. made ≡ self.now) }
-    {
-        let alloc = *self.items.allocator();
-        let mut items = Vec::new(alloc);
-        for line in &self.items {
-            items.push(line.copy()?)?;
-        }
-        Ok(Log { items })
-    }
-}
+pub type Log = ItemList<Line>;
