@@ -1,18 +1,22 @@
--- The assignment bound: summed over a permutation, lower bounds of pairs are at most twice the total of a plan.
+-- The assignment bound of inputs, each counted once: summed over a permutation, lower bounds of pairs are at most twice the rounds of a plan.
 use Rattle.std.proofs.Common.{◌≡◌, ℕ, zero, suc, ◌+◌, ◌/◌, ◌<◌, ◌≤◌, List, [], ◌∷◌, length, get_or, take, refl, sym, ap, ◌∙◌, subst, arith, add-one}
 use Rattle.std.proofs.Math.Seq.{take-length}
-use Rattle.std.specs.Prelude.{All, sum_by}
+use Rattle.std.specs.Prelude.{All, map, sum, sum_by}
 use Rattle.std.specs.List.{enumerate_from}
 use Rattle.std.proofs.lemmas.List.Sums.{sum_by-cons, sum_by_more, sum-map}
 use Rattle.geo_orient.specs.declared.Point.{Point}
 use Rattle.edge_table.specs.declared.edge.Edge.{Edge}
 use Rattle.tri_theory.specs.Points.{ArePlaced}
 use Rattle.tri_theory.specs.Triangulations.{IsTriangulation}
-use Rattle.tri_theory.specs.Rounds.{IsSchedule, Within, IsPlan, total}
+use Rattle.tri_theory.specs.Rounds.{IsSchedule, Within, IsPlan}
 use Rattle.tri_theory.proofs.Schedules.{within_back, within_sum}
 use Rattle.assignment_law.specs.Assignments.{IsAssignment, assignment_sum, assignment_bound}
 use Rattle.assignment_law.proofs.Distinct.{numbers, assigned_sum}
 use Rattle.bound_law.specs.Bounds.{input_at, AreLowerBounds}
+
+-- the rounds of all schedules
+abbrev pub round_sum : List (List (List Edge)) → ℕ
+round_sum schedules = sum (map (λ rounds. length rounds) schedules)
 
 module _ (schedules : List (List (List Edge))) where
   abbrev cost : ℕ → ℕ
@@ -27,13 +31,13 @@ module _ (schedules : List (List (List Edge))) where
       let i = ap (λ k. sum_by (λ rounds. length rounds) (take k schedules)) (add-one n) in
       omega (arith, again, sum_by-cons cost n (numbers n), e, i)
 
-  costs_total : (n : ℕ) → n ≡ length schedules → sum_by cost (numbers n) ≡ total schedules
+  costs_total : (n : ℕ) → n ≡ length schedules → sum_by cost (numbers n) ≡ round_sum schedules
   costs_total n e =
       costs_taken n (omega arith) ∙ ap (λ k. sum_by (λ rounds. length rounds) (take k schedules)) e
       ∙ ap (λ s. sum_by (λ rounds. length rounds) s) (take-length schedules) ∙ sym (sum-map (λ rounds. length rounds) schedules)
 
-  -- an assignment's costs are the total
-  assigned_costs : (assignment : List ℕ) → IsAssignment (length schedules) assignment → sum_by cost assignment ≡ total schedules
+  -- an assignment's costs are these rounds
+  assigned_costs : (assignment : List ℕ) → IsAssignment (length schedules) assignment → sum_by cost assignment ≡ round_sum schedules
   assigned_costs assignment A = sym (assigned_sum cost (length schedules) assignment A) ∙ costs_total (length schedules) refl
 
   -- each pair of the list costs at most the two together
@@ -53,13 +57,13 @@ module _ (schedules : List (List (List Edge))) where
       none = omega arith
 
 -- ---- plans
-plan_long : (points : List Point) (inputs : List (List Edge)) (centre : List Edge) (schedules : List (List (List Edge))) → IsPlan points inputs centre schedules → length inputs ≡ length schedules
+pub plan_long : (points : List Point) (inputs : List (List Edge)) (centre : List Edge) (schedules : List (List (List Edge))) → IsPlan points inputs centre schedules → length inputs ≡ length schedules
 plan_long points [] centre [] p = refl
 plan_long points [] centre (s ∷ ss) p = absurd p
 plan_long points (i ∷ is) centre [] p = absurd p
 plan_long points (i ∷ is) centre (s ∷ ss) p = ap suc (plan_long points is centre ss p.1)
 
-plan_at : (points : List Point) (inputs : List (List Edge)) (centre : List Edge) (schedules : List (List (List Edge))) → IsPlan points inputs centre schedules → (i : ℕ) → i < length inputs → IsSchedule points (input_at inputs i) (get_or schedules i []) centre
+pub plan_at : (points : List Point) (inputs : List (List Edge)) (centre : List Edge) (schedules : List (List (List Edge))) → IsPlan points inputs centre schedules → (i : ℕ) → i < length inputs → IsSchedule points (input_at inputs i) (get_or schedules i []) centre
 plan_at points [] centre [] p i h = absurd (omega arith)
 plan_at points [] centre (s ∷ ss) p i h = absurd p
 plan_at points (e ∷ is) centre [] p i h = absurd p
@@ -73,11 +77,11 @@ plan_joins points inputs centre schedules i j P I p hi hj =
     (within_back points P (input_at inputs j) centre _ (I j [] hj) (get_or schedules j [], omega arith, plan_at points inputs centre schedules p j hj))
 
 pub assignment_bounds : (points : List Point) (inputs : List (List Edge)) (centre : List Edge) (schedules : List (List (List Edge))) (lower : ℕ → ℕ → ℕ) (assignment : List ℕ) → ArePlaced points → All (λ edges. IsTriangulation points edges) inputs → IsPlan points inputs centre schedules
-    → AreLowerBounds points inputs lower → IsAssignment (length inputs) assignment → assignment_bound lower assignment ≤ total schedules
+    → AreLowerBounds points inputs lower → IsAssignment (length inputs) assignment → assignment_bound lower assignment ≤ round_sum schedules
 assignment_bounds points inputs centre schedules lower assignment P I p L A =
     let sums = pairs_cost schedules lower assignment schedules 0 (A.long ∙ long) pair in
     let costs = assigned_costs schedules assignment (subst (λ n. IsAssignment n assignment) long A) in
-    halves (assignment_sum lower assignment) (total schedules) (omega (arith, sums, costs, sum-map (λ rounds. length rounds) schedules))
+    halves (assignment_sum lower assignment) (round_sum schedules) (omega (arith, sums, costs, sum-map (λ rounds. length rounds) schedules))
   where
     long : length inputs ≡ length schedules
     long = plan_long points inputs centre schedules p

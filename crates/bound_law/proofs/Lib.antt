@@ -1,2 +1,4 @@
 pub mod Bounded
+pub mod Copies
+pub mod CopyExamples
 pub mod Proved

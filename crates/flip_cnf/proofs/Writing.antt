@@ -4,7 +4,7 @@ use Rattle.std.specs.List.{flat_map, range_with_len}
 use Rattle.edge_table.specs.declared.edge.Edge.{Edge}
 use Rattle.log_law.specs.Clauses.{Clause, Formula}
 use Rattle.formula_law.specs.Frames.{Frame}
-use Rattle.formula_law.specs.Formula.{layer_clauses, crossing_clauses, flip_clauses, change_clauses, formula, clause_count, variable_count}
+use Rattle.formula_law.specs.Formula.{layer_clauses, crossing_clauses, flip_clauses, change_clauses, formula, clause_count, variable_count, there, made}
 use Rattle.formula_law.specs.RefutationLaws.{whole}
 use Rattle.formula_law.proofs.Fits.{fits}
 use Rattle.formula_law.proofs.FormulaCounts.{formula_length}
@@ -28,19 +28,19 @@ module _ (F : Frame) (A B : List Edge) (k : ℕ) where
   start = record { variables = variable_count F k; clauses = [] }
 
   abbrev pub first : List Clause
-  first = layer_clauses F 0 A
+  first = layer_clauses F (there F) 0 A
 
   abbrev pub second : List Clause
-  second = layer_clauses F k B
+  second = layer_clauses F (there F) k B
 
   abbrev pub third : List Clause
-  third = flat_map (crossing_clauses F) (range_with_len 0 (k + 1))
+  third = flat_map (crossing_clauses F (there F)) (range_with_len 0 (k + 1))
 
   abbrev pub fourth : List Clause
-  fourth = flat_map (flip_clauses F k) (range_with_len 0 k)
+  fourth = flat_map (flip_clauses F (there F) (made F k)) (range_with_len 0 k)
 
   abbrev pub fifth : List Clause
-  fifth = flat_map (change_clauses F k) (range_with_len 0 k)
+  fifth = flat_map (change_clauses F (there F) (made F k)) (range_with_len 0 k)
 
   module _ (some : IsFrameOfSome F) (few : clause_count F k ≤ 400_000) (made : Formula) (is : made ≡ start) where
     pub takes_5 : Takes made (first ++ second ++ third ++ fourth ++ fifth)

@@ -42,7 +42,7 @@ four e f = edge e.0 f.0 ∷ edge e.0 f.1 ∷ edge e.1 f.0 ∷ edge e.1 f.1 ∷ [
 
 -- what flip g asks where it is made in round t
 abbrev pub asked : Frame → ℕ → ℕ → Pair → List Clause
-asked F k t g = map (λ demand. literal (made F k t g) false ∷ demand ∷ []) (demands F t g)
+asked F k t g = map (λ demand. literal (made F k t g) false ∷ demand ∷ []) (demands F (there F) t g)
 
 -- after t rounds e is there, or not, as the edges say
 abbrev pub told_by : Frame → ℕ → List Edge → Edge → Clause
@@ -66,4 +66,4 @@ coming F k t e flips = literal (there F t e) true ∷ literal (there F (t + 1) e
 
 -- both clauses of e
 abbrev pub changes : Frame → ℕ → ℕ → Edge → List Clause
-changes F k t e = leave_clause F k t e ∷ come_clause F k t e ∷ []
+changes F k t e = leave_clause F (there F) (made F k) t e ∷ come_clause F (there F) (made F k) t e ∷ []

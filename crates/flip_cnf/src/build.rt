@@ -1,7 +1,7 @@
 // The clauses of the formula of k rounds, group by group.
 ghost use Rattle.std.specs.Prelude.{◌≡◌, ◌+◌, ◌≤◌, IfOk, OnOk};
 ghost use Rattle.std.specs.List.{flat_map, range_with_len};
-ghost use Rattle.formula_law.specs.Formula.{crossing_clauses, flip_clauses, change_clauses, clause_count, variable_count};
+ghost use Rattle.formula_law.specs.Formula.{crossing_clauses, flip_clauses, change_clauses, clause_count, variable_count, there, made};
 ghost use Rattle.formula_law.specs.RefutationLaws.{whole};
 ghost use Rattle.flip_cnf.specs.Building.{IsFrameOfSome, Takes, adding};
 
@@ -26,8 +26,8 @@ use tri_check::Triang;
 fn add_all_crossings(alloc: Global, cnf: &mut Cnf, lists: &Lists, k: u32) -> Result<(), AllocError>
     requires frame { IsFrameOfSome lists.now }
     requires rounds { k ≤ 400_000 }
-    requires takes { Takes cnf.old (flat_map (crossing_clauses lists.now) (range_with_len 0 (k + 1))) }
-    ensures { OnOk result (cnf.new ≡ adding cnf.old (flat_map (crossing_clauses lists.now) (range_with_len 0 (k + 1)))) }
+    requires takes { Takes cnf.old (flat_map (crossing_clauses lists.now (there lists.now)) (range_with_len 0 (k + 1))) }
+    ensures { OnOk result (cnf.new ≡ adding cnf.old (flat_map (crossing_clauses lists.now (there lists.now)) (range_with_len 0 (k + 1)))) }
 {
     for t in 0..k + 1 {
         add_crossings(alloc, cnf, lists, t)?;
@@ -40,8 +40,8 @@ fn add_all_flips(alloc: Global, cnf: &mut Cnf, lists: &Lists, k: u32) -> Result<
     requires frame { IsFrameOfSome lists.now }
     requires few { variable_count lists.now k ≤ 400_000 }
     requires rounds { k ≤ 400_000 }
-    requires takes { Takes cnf.old (flat_map (flip_clauses lists.now k) (range_with_len 0 k)) }
-    ensures { OnOk result (cnf.new ≡ adding cnf.old (flat_map (flip_clauses lists.now k) (range_with_len 0 k))) }
+    requires takes { Takes cnf.old (flat_map (flip_clauses lists.now (there lists.now) (made lists.now k)) (range_with_len 0 k)) }
+    ensures { OnOk result (cnf.new ≡ adding cnf.old (flat_map (flip_clauses lists.now (there lists.now) (made lists.now k)) (range_with_len 0 k))) }
 {
     for t in 0..k {
         add_flips(alloc, cnf, lists, k, t)?;
@@ -54,8 +54,8 @@ fn add_all_changes(alloc: Global, cnf: &mut Cnf, lists: &Lists, k: u32) -> Resul
     requires frame { IsFrameOfSome lists.now }
     requires few { variable_count lists.now k ≤ 400_000 }
     requires rounds { k ≤ 400_000 }
-    requires takes { Takes cnf.old (flat_map (change_clauses lists.now k) (range_with_len 0 k)) }
-    ensures { OnOk result (cnf.new ≡ adding cnf.old (flat_map (change_clauses lists.now k) (range_with_len 0 k))) }
+    requires takes { Takes cnf.old (flat_map (change_clauses lists.now (there lists.now) (made lists.now k)) (range_with_len 0 k)) }
+    ensures { OnOk result (cnf.new ≡ adding cnf.old (flat_map (change_clauses lists.now (there lists.now) (made lists.now k)) (range_with_len 0 k))) }
 {
     for t in 0..k {
         add_changes(alloc, cnf, lists, k, t)?;

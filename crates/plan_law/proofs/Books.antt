@@ -1,29 +1,31 @@
 -- Journals: what fit entries keep and improve, and the bound.
 use Rattle.std.proofs.Common.{◌≡◌, ◌⊎◌, inl, inr, ℕ, zero, suc, ◌+◌, ◌-◌, ◌/◌, ◌<◌, ◌≤◌, min, max, Bool, true, false, cond, ◌&&◌, eqb, eqb-true, Option, Some, None, List, [], ◌∷◌, ◌++◌, length, get_or, take, All, Contains, refl, sym, ap, ap₂, ◌∙◌, subst, arith, add-one}
-use Rattle.std.specs.Prelude.{sum_by, unwrap_or, slice_get}
+use Rattle.std.specs.Prelude.{sum, sum_by, unwrap_or, slice_get}
 use Rattle.std.specs.List.{range_with_len, enumerate_from}
 use Rattle.std.specs.Option.{option_or}
 use Rattle.std.proofs.lemmas.Bool.Decides.{Decides-and}
 use Rattle.std.proofs.lemmas.List.Folds.{find-append}
 use Rattle.std.proofs.lemmas.List.Sums.{sum_by-cons}
-use Rattle.std.proofs.lemmas.Slice.Zip.{AllZip-long}
 use Rattle.geo_orient.specs.declared.Point.{Point}
 use Rattle.tri_theory.specs.Points.{ArePlaced}
 use Rattle.edge_table.specs.declared.edge.Edge.{Edge}
 use Rattle.tri_theory.specs.Triangulations.{IsTriangulation}
-use Rattle.tri_theory.specs.Rounds.{Within}
-use Rattle.flip_list_law.specs.FlipLists.{IsFlipList}
+use Rattle.tri_theory.specs.Rounds.{Within, total}
+use Rattle.flip_list_law.specs.declared.Flip.{Flip}
+use Rattle.flip_list_law.specs.FlipLists.{in_turn}
 use Rattle.assignment_law.specs.Assignments.{IsAssignment, assignment_sum, assignment_bound}
+use Rattle.bound_law.specs.Copies.{copy_of, copy_lower}
 use Rattle.bound_law.specs.Bounds.{input_at, AreLowerBounds}
-use Rattle.plan_law.specs.Plans.{IsInstance, Plan, IsPlanOf, plan_total, followed_all, swapped}
-use Rattle.plan_law.specs.Books.{PairRow, IsTrueRow, row_of, lower_of, Entry, Move, Swap, Row, Pack, is_plan_entry, State, bound, identity, opening_state, after_entry, state_after, MayBeOffered, IsFit, IsLegal, state_of, front}
+use Rattle.plan_law.specs.Images.{flips_in_turn}
+use Rattle.plan_law.specs.Plans.{IsInstance, Plan, IsPlanOf, plan_total, followed_all, with_list, swapped}
+use Rattle.plan_law.specs.Books.{PairRow, IsTrueRow, row_of, lower_of, Entry, Move, Swap, Row, Pack, is_plan_entry, State, bound, identity, opening_state, plan_after, after_entry, state_after, MayBeOffered, IsFit, IsLegal, state_of, front}
 use Rattle.plan_law.specs.PlanLaws.{Swaps}
-use Rattle.plan_law.specs.BookLaws.{Justification, Improves, FitEntriesImprove, JournalsGrow, IsState, BooksKeepPlans, JournalsImprove, JournalsNeverWorsen, BooksBoundPlans, CrossedRowsAreTrue, EmptyRowsAreTrue, TrueRowsRefuseOneFewer}
+use Rattle.plan_law.specs.BookLaws.{Justification, Improves, FitEntriesImprove, JournalsGrow, IsState, BooksKeepPlans, JournalsKeepWeights, JournalsImprove, JournalsNeverWorsen, BooksBoundPlans, LowerBoundsAreSymmetric, CrossedRowsAreTrue, EmptyRowsAreTrue, TrueRowsRefuseOneFewer}
 use Rattle.tri_theory.proofs.Schedules.{within_back}
-use Rattle.bound_law.proofs.Bounded.{assignment_bounds}
+use Rattle.bound_law.proofs.Copies.{weights_bound}
 use Rattle.crossing_law.proofs.Crossed.{apart_by_crossings}
 use Rattle.plan_law.proofs.Images.{find_passes, find_listed}
-use Rattle.plan_law.proofs.Plans.{follow_all, swaps_keep_plans}
+use Rattle.plan_law.proofs.Plans.{follow_all, followed_weights, swaps_keep_plans}
 
 -- ---- rows
 lower_at : {E : Type 0} → Option (PairRow E) → ℕ
@@ -69,16 +71,38 @@ bound_more lower upper assignment h =
 same_value : (plan next : Plan) (r : Option Plan) → r ≡ Some next → unwrap_or r plan ≡ next
 same_value plan next r e = ap (λ r. unwrap_or r plan) e
 
+-- the plan after an entry has the same weights
+kept_weights : (plan : Plan) (r : Option Plan) → ((next : Plan) → r ≡ Some next → next.weights ≡ plan.weights) → (unwrap_or r plan).weights ≡ plan.weights
+kept_weights plan None h = refl
+kept_weights plan (Some next) h = h next refl
+
+swapped_weights : (points : List Point) (inputs : List (List Edge)) (plan next : Plan) (i : ℕ) (rounds : List (List Edge)) → swapped points inputs plan i rounds ≡ Some next → next.weights ≡ plan.weights
+swapped_weights points inputs plan next i rounds e = by_flips (flips_in_turn points (input_at inputs i) (in_turn rounds)) e
+  where
+    by_flips : (r : Option (List Flip)) → elim r [ Some flips ↦ Some (with_list plan i flips) | None ↦ None ] ≡ Some next → next.weights ≡ plan.weights
+    by_flips None h = absurd (cc)
+    by_flips (Some flips) h = let same : with_list plan i flips ≡ next = cc in ap (λ (p : Plan). p.weights) (sym same)
+
+entry_weights : (E : Type 0) (points : List Point) (inputs : List (List Edge)) (plan : Plan) (entry : Entry E) → (unwrap_or (plan_after points inputs plan entry) plan).weights ≡ plan.weights
+entry_weights E points inputs plan (Move turn edges) = kept_weights plan (followed_all points plan edges) (λ next e. followed_weights points edges plan next e)
+entry_weights E points inputs plan (Swap turn input rounds) = kept_weights plan (swapped points inputs plan input rounds) (λ next e. swapped_weights points inputs plan next input rounds e)
+entry_weights E points inputs plan (Row turn row) = refl
+entry_weights E points inputs plan (Pack turn assignment) = refl
+
 module _ (E : Type 0) where
+  -- another plan of the same weights has the same bound
+  same_bound : (state : State E) (weights : List ℕ) → weights ≡ state.plan.weights → bound state ≤ assignment_bound (copy_lower weights (lower_of state.rows)) state.assignment
+  same_bound state weights e = subst (λ ws. bound state ≤ assignment_bound (copy_lower ws (lower_of state.rows)) state.assignment) (sym e) (omega arith)
+
   improves : (points : List Point) (inputs : List (List Edge)) (state : State E) (entry : Entry E) → IsFit points inputs state entry → Improves state entry (after_entry points inputs state entry)
   improves points inputs state (Move turn edges) (next, e, l) =
       let i : plan_total (unwrap_or (followed_all points state.plan edges) state.plan) ≡ plan_total next = ap plan_total (same_value state.plan next (followed_all points state.plan edges) e) in
-      record { total_falls = λ _. omega (arith, i, l); total_kept = omega (arith, i, l); bound_kept = omega arith }
+      record { total_falls = λ _. omega (arith, i, l); total_kept = omega (arith, i, l); bound_kept = same_bound state _ (entry_weights E points inputs state.plan (Move turn edges)) }
   improves points inputs state (Swap turn input rounds) (R, (next, e, l)) =
       let i : plan_total (unwrap_or (swapped points inputs state.plan input rounds) state.plan) ≡ plan_total next = ap plan_total (same_value state.plan next (swapped points inputs state.plan input rounds) e) in
-      record { total_falls = λ _. omega (arith, i, l); total_kept = omega (arith, i, l); bound_kept = omega arith }
+      record { total_falls = λ _. omega (arith, i, l); total_kept = omega (arith, i, l); bound_kept = same_bound state _ (entry_weights E points inputs state.plan (Swap turn input rounds)) }
   improves points inputs state (Row turn row) h =
-      record { total_falls = λ e. absurd (cc); total_kept = omega arith; bound_kept = bound_more (lower_of state.rows) (lower_of (state.rows ++ (row ∷ []))) state.assignment (lower_more E state.rows row) }
+      record { total_falls = λ e. absurd (cc); total_kept = omega arith; bound_kept = bound_more (copy_lower state.plan.weights (lower_of state.rows)) (copy_lower state.plan.weights (lower_of (state.rows ++ (row ∷ [])))) state.assignment (λ c d. lower_more E state.rows row (copy_of state.plan.weights c) (copy_of state.plan.weights d)) }
   improves points inputs state (Pack turn assignment) h = record { total_falls = λ e. absurd (cc); total_kept = omega arith; bound_kept = omega (arith, h) }
 
 pub fit_entries_improve : (E : Type 0) → FitEntriesImprove E
@@ -161,16 +185,29 @@ module _ (E : Type 0) (justified : PairRow E → Type 0) (points : List Point) (
   abbrev IsRowThere : PairRow E → Type 0
   IsRowThere row = (row.low < row.high) × (row.high < length inputs) × justified row
 
+  pub state_weights : (journal : List (Entry E)) (start : State E) → (state_after points inputs start journal).plan.weights ≡ start.plan.weights
+  state_weights [] start = refl
+  state_weights (entry ∷ journal) start = state_weights journal (after_entry points inputs start entry) ∙ entry_weights E points inputs start.plan entry
+
+  pub legal_more : (start : State E) (journal : List (Entry E)) (entry : Entry E) → IsLegal justified points inputs start journal → MayBeOffered justified (length inputs) (sum start.plan.weights) entry → IsFit points inputs (state_after points inputs start journal) entry
+      → IsLegal justified points inputs start (journal ++ (entry ∷ []))
+  legal_more start journal entry h m f =
+      legal_join start journal (entry ∷ []) h (subst (λ ws. MayBeOffered justified (length inputs) (sum ws) entry) (sym (state_weights journal start)) m, f, tt)
+
+  -- as many copies, after an entry that leaves the assignment
+  same_copies : (state : State E) (entry : Entry E) → IsState justified points inputs state → IsAssignment (sum (unwrap_or (plan_after points inputs state.plan entry) state.plan).weights) state.assignment
+  same_copies state entry K = subst (λ ws. IsAssignment (sum ws) state.assignment) (sym (entry_weights E points inputs state.plan entry)) K.is_assignment
+
   module _ (N : IsInstance points inputs) where
-    pub entry_keeps : (state : State E) (entry : Entry E) → IsState justified points inputs state → MayBeOffered justified (length inputs) entry → IsFit points inputs state entry → IsState justified points inputs (after_entry points inputs state entry)
+    pub entry_keeps : (state : State E) (entry : Entry E) → IsState justified points inputs state → MayBeOffered justified (length inputs) (sum state.plan.weights) entry → IsFit points inputs state entry → IsState justified points inputs (after_entry points inputs state entry)
     entry_keeps state (Move turn edges) K m (next, e, l) = record {
       is_plan = subst (IsPlanOf points inputs) (sym (same_value state.plan next (followed_all points state.plan edges) e)) (follow_all points inputs N edges state.plan next K.is_plan e).0;
-      is_assignment = K.is_assignment;
+      is_assignment = same_copies state (Move turn edges) K;
       are_justified = K.are_justified;
     }
     entry_keeps state (Swap turn input rounds) K m (R, (next, e, l)) = record {
       is_plan = subst (IsPlanOf points inputs) (sym (same_value state.plan W.next (swapped points inputs state.plan input rounds) W.is_swapped)) W.is_plan;
-      is_assignment = K.is_assignment;
+      is_assignment = same_copies state (Swap turn input rounds) K;
       are_justified = K.are_justified;
     }
       where
@@ -186,12 +223,9 @@ module _ (E : Type 0) (justified : PairRow E → Type 0) (points : List Point) (
   pub opening_keeps : (plan : Plan) → IsPlanOf points inputs plan → IsState justified points inputs (opening_state plan)
   opening_keeps plan h = record {
     is_plan = h;
-    is_assignment = subst (λ n. IsAssignment n (identity (length plan.lists))) long (identity_assigns (length plan.lists));
+    is_assignment = identity_assigns (sum plan.weights);
     are_justified = λ k d l. absurd (omega arith);
   }
-    where
-      long : length plan.lists ≡ length inputs
-      long = AllZip-long (λ input flips. IsFlipList points input flips plan.centre) inputs plan.lists h
 
   -- true rows are lower bounds
   rows_bound : ArePlaced points → All (λ edges. IsTriangulation points edges) inputs → (rows : List (PairRow E)) → ((row : PairRow E) → Contains rows row → IsTrueRow points inputs row) → AreLowerBounds points inputs (lower_of rows)
@@ -225,11 +259,14 @@ contains_in_all : {X : Type 0} (Q : X → Type 0) (xs : List X) (x : X) → All 
 contains_in_all Q xs x h (k, l, e) = subst Q e (h k x l)
 
 pub journals_grow : (E : Type 0) (justified : Justification E) → JournalsGrow E justified
-journals_grow E justified points inputs start journal entry h m f = legal_join E (justified points inputs) points inputs start journal (entry ∷ []) h (m, f, tt)
+journals_grow E justified points inputs start journal entry h m f = legal_more E (justified points inputs) points inputs start journal entry h m f
 
 pub books_keep_plans : (E : Type 0) (justified : Justification E) → BooksKeepPlans E justified
 books_keep_plans E justified points inputs book N B =
     journal_keeps E (justified points inputs) points inputs N book.journal (opening_state book.opening) (opening_keeps E (justified points inputs) points inputs book.opening B.opens) B.legal
+
+pub journals_keep_weights : (E : Type 0) → JournalsKeepWeights E
+journals_keep_weights E points inputs start journal = state_weights E (λ row. Unit {0}) points inputs journal start
 
 pub journals_improve : (E : Type 0) (justified : Justification E) → JournalsImprove E justified
 journals_improve E justified points inputs start journal k entry h e =
@@ -244,10 +281,26 @@ journals_never_worsen E justified points inputs start earlier later h =
 pub books_bound_plans : (E : Type 0) (justified : Justification E) → BooksBoundPlans E justified
 books_bound_plans E justified premise points inputs book centre schedules N B p =
     let K = books_keep_plans E justified points inputs book N B in
-    assignment_bounds points inputs centre schedules (lower_of (state_of points inputs book).rows) (state_of points inputs book).assignment N.placed N.triangulated p
+    let same = journals_keep_weights E points inputs (opening_state book.opening) book.journal in
+    subst (λ ws. assignment_bound (copy_lower ws (lower_of (state_of points inputs book).rows)) (state_of points inputs book).assignment ≤ total book.opening.weights schedules) (sym same)
+    (weights_bound points book.opening.weights inputs centre schedules (lower_of (state_of points inputs book).rows) (state_of points inputs book).assignment N.placed N.triangulated B.opens.weighed p
     (rows_bound E (justified points inputs) points inputs N.placed N.triangulated (state_of points inputs book).rows
     (λ row c. let q = contains_in_all (λ row. (row.low < row.high) × (row.high < length inputs) × justified points inputs row) (state_of points inputs book).rows row K.are_justified c in premise points inputs row N q.0 q.1 q.2))
-    K.is_assignment
+    (subst (λ ws. IsAssignment (sum ws) (state_of points inputs book).assignment) same K.is_assignment))
+
+-- ---- lower bounds of two inputs
+pub lower_bounds_are_symmetric : (E : Type 0) → LowerBoundsAreSymmetric E
+lower_bounds_are_symmetric E rows = record { other_order = λ i j. ap₂ (λ low high. elim (row_of rows low high) as (λ _. ℕ) [ Some row ↦ row.lower | None ↦ 0 ]) (least i j) (greatest i j); itself = λ ordered i. by_found ordered i (row_of rows (min i i) (max i i)) refl }
+  where
+    least : (i j : ℕ) → min i j ≡ min j i
+    least i j = omega arith
+
+    greatest : (i j : ℕ) → max i j ≡ max j i
+    greatest i j = omega arith
+
+    by_found : All (λ row. row.low < row.high) rows → (i : ℕ) → (r : Option (PairRow E)) → row_of rows (min i i) (max i i) ≡ r → lower_of rows i i ≡ 0
+    by_found ordered i None e = ap (λ r. elim r as (λ _. ℕ) [ Some row ↦ row.lower | None ↦ 0 ]) e
+    by_found ordered i (Some row) e = absurd (let p = row_cases E rows (min i i) (max i i) row e in let l = contains_in_all (λ row. row.low < row.high) rows row ordered p.0 in omega (arith, p.1, p.2, l))
 
 -- ---- rows that are true
 pub crossed_rows_are_true : (E : Type 0) → CrossedRowsAreTrue E

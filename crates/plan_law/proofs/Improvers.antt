@@ -1,5 +1,5 @@
 -- Walks lower the total, and descents take rounds, which lower the sum of the weights.
-use Rattle.std.proofs.Common.{◌≡◌, ◌≢◌, ◌⊎◌, inl, inr, ◌↔◌, ℕ, zero, suc, ◌+◌, ◌<◌, ◌≤◌, Bool, true, false, cond, not, ◌&&◌, ◌||◌, Option, Some, None, List, [], ◌∷◌, ◌++◌, length, get_or, take, All, Contains, refl, sym, ap, ap₂, ◌∙◌, subst, arith, ltb-true, ltb-false}
+use Rattle.std.proofs.Common.{◌≡◌, ◌≢◌, ◌⊎◌, inl, inr, ◌↔◌, ℕ, zero, suc, ◌+◌, ◌*◌, ◌<◌, ◌≤◌, Bool, true, false, cond, not, ◌&&◌, ◌||◌, Option, Some, None, List, [], ◌∷◌, ◌++◌, length, get_or, take, All, Contains, refl, sym, ap, ap₂, ◌∙◌, subst, arith, ltb-true, ltb-false}
 use Rattle.std.specs.Prelude.{nat_lt, sum_by, Decides}
 use Rattle.std.specs.List.{list_any}
 use Rattle.std.proofs.lemmas.Bool.Decides.{Decides-and, Decides-or}
@@ -490,6 +490,15 @@ pub descents_end : DescentsEnd
 descents_end points centre edges most P I l = same_descent points P centre most (weight_of points centre edges) edges I l (omega arith)
 
 -- ---- the answers of descents
+-- fewer rounds weigh less
+heavier : (w m n : ℕ) → m ≤ n → w * m ≤ w * n
+heavier zero m n l = omega arith
+heavier (suc w) m n l = let again = heavier w m n l in omega (arith, again, l)
+
+lighter : (w m n : ℕ) → 1 ≤ w → m < n → w * m < w * n
+lighter zero m n p l = absurd (omega arith)
+lighter (suc w) m n p l = let more = heavier w m n (omega arith) in omega (arith, more, l)
+
 module _ (points : List Point) (inputs : List (List Edge)) (plan : Plan) (i : ℕ) (N : IsInstance points inputs) (l : i < length inputs) where
   abbrev found : Descended
   found = descended (weight_of points plan.centre (input_at inputs i)) points plan.centre (input_at inputs i)
@@ -516,7 +525,7 @@ module _ (points : List Point) (inputs : List (List Edge)) (plan : Plan) (i : �
     are_rounds = R;
     in_order = D.in_order;
     fewer = less;
-    lowers = (W.next, W.is_swapped, let t = W.totals in let n = W.no_more in omega (arith, t, n, less));
+    lowers = (W.next, W.is_swapped, let t = W.totals in let n = W.no_more in let m = lighter (get_or plan.weights i 0) (round_count (get_or W.next.lists i [])) held weight (omega (arith, n, less)) in omega (arith, t, m));
   })
     where
       same : found.rounds ≡ rounds
@@ -527,6 +536,9 @@ module _ (points : List Point) (inputs : List (List Edge)) (plan : Plan) (i : �
 
       less : length found.rounds < held
       less = ltb-true (length found.rounds) held f
+
+      weight : 1 ≤ get_or plan.weights i 0
+      weight = h.weighed.positive i 0 (let e = h.weighed.one_each in omega (arith, e, l))
 
       W : Swaps points inputs plan i found.rounds
       W = swaps_keep_plans points inputs plan i found.rounds N h l R

@@ -28,7 +28,7 @@ square_b = (0, 1) ∷ (0, 3) ∷ (1, 2) ∷ (1, 3) ∷ (2, 3) ∷ []
 
 -- the opening of both: the second flips to the first
 abbrev square_plan : Plan
-square_plan = record { centre = square_a; lists = [] ∷ (flip 1 3 0 2 ∷ []) ∷ [] }
+square_plan = record { centre = square_a; weights = 1 ∷ 1 ∷ []; lists = [] ∷ (flip 1 3 0 2 ∷ []) ∷ [] }
 
 square_image : image_of square square_a (0, 2) ≡ Some (1, 3)
 square_image = refl
@@ -44,7 +44,7 @@ square_moves : moves square square_plan ≡ ((0, 2) ∷ []) ∷ ((0, 2) ∷ []) 
 unfolding triangle is_same makes
 square_moves = refl
 
-square_followed : followed_all square square_plan ((0, 2) ∷ []) ≡ Some (record { centre = square_b; lists = (flip 0 2 1 3 ∷ []) ∷ [] ∷ [] })
+square_followed : followed_all square square_plan ((0, 2) ∷ []) ≡ Some (record { centre = square_b; weights = 1 ∷ 1 ∷ []; lists = (flip 0 2 1 3 ∷ []) ∷ [] ∷ [] })
 unfolding triangle is_same makes
 square_followed = refl
 
@@ -64,9 +64,25 @@ square_swap : swapped square (square_a ∷ square_b ∷ []) square_plan 1 (((0, 
 unfolding triangle is_same makes
 square_swap = refl
 
+-- where the second weighs 3, settling follows 0-2, and the total falls from 3 to 1
+abbrev heavy_plan : Plan
+heavy_plan = record { centre = square_a; weights = 1 ∷ 3 ∷ []; lists = [] ∷ (flip 1 3 0 2 ∷ []) ∷ [] }
+
+heavy_total : plan_total heavy_plan ≡ 3
+unfolding triangle is_same makes
+heavy_total = refl
+
+heavy_lowers : first_lowering square heavy_plan ≡ Some ((0, 2) ∷ [])
+unfolding triangle is_same makes
+heavy_lowers = refl
+
+heavy_after : plan_total (record { centre = square_b; weights = 1 ∷ 3 ∷ []; lists = (flip 0 2 1 3 ∷ []) ∷ [] ∷ [] }) ≡ 1
+unfolding triangle is_same makes
+heavy_after = refl
+
 -- with the second alone, settling follows 0-2
 abbrev lone_plan : Plan
-lone_plan = record { centre = square_a; lists = (flip 1 3 0 2 ∷ []) ∷ [] }
+lone_plan = record { centre = square_a; weights = 1 ∷ []; lists = (flip 1 3 0 2 ∷ []) ∷ [] }
 
 lone_lowers : first_lowering square lone_plan ≡ Some ((0, 2) ∷ [])
 unfolding triangle is_same makes
@@ -76,7 +92,7 @@ lone_walk : walk square lone_plan (1 ∷ []) ≡ Some ((0, 2) ∷ [])
 unfolding triangle is_same makes
 lone_walk = refl
 
-lone_after : followed_all square lone_plan ((0, 2) ∷ []) ≡ Some (record { centre = square_b; lists = [] ∷ [] })
+lone_after : followed_all square lone_plan ((0, 2) ∷ []) ≡ Some (record { centre = square_b; weights = 1 ∷ []; lists = [] ∷ [] })
 unfolding triangle is_same makes
 lone_after = refl
 
@@ -95,7 +111,7 @@ abbrev fan_1 : List Edge
 fan_1 = (0, 1) ∷ (0, 7) ∷ (1, 2) ∷ (1, 3) ∷ (1, 4) ∷ (1, 5) ∷ (1, 6) ∷ (1, 7) ∷ (2, 3) ∷ (3, 4) ∷ (4, 5) ∷ (5, 6) ∷ (6, 7) ∷ []
 
 abbrev octagon_plan : Plan
-octagon_plan = record { centre = fan_0; lists = [] ∷ (flip 1 7 0 6 ∷ flip 1 6 0 5 ∷ flip 1 5 0 4 ∷ flip 1 4 0 3 ∷ flip 1 3 0 2 ∷ []) ∷ [] }
+octagon_plan = record { centre = fan_0; weights = 1 ∷ 1 ∷ []; lists = [] ∷ (flip 1 7 0 6 ∷ flip 1 6 0 5 ∷ flip 1 5 0 4 ∷ flip 1 4 0 3 ∷ flip 1 3 0 2 ∷ []) ∷ [] }
 
 abbrev four_rounds : List (List Edge)
 four_rounds = ((1, 4) ∷ (1, 6) ∷ []) ∷ ((1, 7) ∷ []) ∷ ((1, 5) ∷ (5, 7) ∷ []) ∷ ((1, 3) ∷ (3, 5) ∷ []) ∷ []
@@ -142,7 +158,7 @@ unfolding triangle is_same makes
 octagon_replayed = refl
 
 octagon_swap : swapped octagon (fan_0 ∷ fan_1 ∷ []) octagon_plan 1 four_rounds
-    ≡ Some (record { centre = fan_0; lists = [] ∷ (flip 1 4 3 5 ∷ flip 1 6 5 7 ∷ flip 1 7 0 5 ∷ flip 1 5 0 3 ∷ flip 5 7 0 6 ∷ flip 1 3 0 2 ∷ flip 3 5 0 4 ∷ []) ∷ [] })
+    ≡ Some (record { centre = fan_0; weights = 1 ∷ 1 ∷ []; lists = [] ∷ (flip 1 4 3 5 ∷ flip 1 6 5 7 ∷ flip 1 7 0 5 ∷ flip 1 5 0 3 ∷ flip 5 7 0 6 ∷ flip 1 3 0 2 ∷ flip 3 5 0 4 ∷ []) ∷ [] })
 unfolding triangle is_same makes
 octagon_swap = refl
 

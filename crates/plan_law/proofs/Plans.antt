@@ -1,24 +1,23 @@
 -- Plans: following, swapping and settling keep them.
-use Rattle.std.proofs.Common.{◌≡◌, ◌≢◌, ◌⊎◌, inl, inr, ℕ, zero, suc, ◌+◌, ◌<◌, ◌≤◌, Bool, true, false, cond, Option, Some, None, List, [], ◌∷◌, ◌++◌, length, map, set, get_or, take, All, AllPairs, Contains, refl, sym, ap, ap₂, ◌∙◌, subst, arith, lt-ltb, ltb-true, ltb-false, get_or-set_same, get_or-set_other}
-use Rattle.std.specs.Prelude.{nat_lt, sum, sum_by, filter}
+use Rattle.std.proofs.Common.{◌≡◌, ◌≢◌, ◌⊎◌, inl, inr, ℕ, zero, suc, ◌+◌, ◌*◌, ◌<◌, ◌≤◌, Bool, true, false, cond, Option, Some, None, List, [], ◌∷◌, ◌++◌, length, map, set, get_or, take, All, AllPairs, Contains, refl, sym, ap, ap₂, ◌∙◌, subst, arith, lt-ltb, ltb-true, ltb-false, get_or-set_same, get_or-set_other}
+use Rattle.std.specs.Prelude.{nat_lt, filter}
 use Rattle.std.specs.Option.{is_some}
 use Rattle.std.specs.List.{AllZip}
 use Rattle.std.proofs.lemmas.List.{append-nil}
 use Rattle.std.proofs.lemmas.Slice.Zip.{AllZip-long}
-use Rattle.std.proofs.lemmas.List.Sums.{sum_by-cons, sum-map}
 use Rattle.geo_orient.specs.declared.Point.{Point}
 use Rattle.tri_theory.specs.Points.{ArePlaced}
 use Rattle.edge_table.specs.declared.edge.Edge.{Edge}
 use Rattle.edge_table.specs.Edges.{IsBefore, IsAscending}
 use Rattle.tri_theory.specs.Triangulations.{IsTriangulation}
 use Rattle.tri_theory.specs.Flips.{FlipsTo, Flips}
-use Rattle.tri_theory.specs.Rounds.{IsRound, IsSchedule, IsPlan, total}
+use Rattle.tri_theory.specs.Rounds.{IsRound, IsSchedule, IsPlan, weighted_sum, total}
 use Rattle.flip_list_law.specs.declared.Flip.{Flip}
 use Rattle.flip_list_law.specs.FlipLists.{Leads, IsFlipList, FlipInTurn, flipped_edges, round_count, grouped, last_images, in_turn, follow}
 use Rattle.bound_law.specs.Bounds.{input_at}
 use Rattle.plan_law.specs.Images.{image_of, flippable, after_flip, flips_in_turn}
 use Rattle.plan_law.specs.Plans.{IsInstance, Plan, IsPlanOf, plan_total, with_flip, followed, followed_all, with_list, last_moves, moves, lowers, IsSettled, first_lowering, Settles}
-use Rattle.plan_law.specs.PlanLaws.{ImagesAreFound, FlipsLeadOn, FlippableEdges, FlipsAreFound, PlansHaveSchedules, CentresAreTriangulations, FollowingKeepsPlans, EdgesAreFollowed, MovesAreMade, Swaps, SwapsKeepPlans, SettlingEnds, SettlingIsDetermined, SettlingKeepsPlans}
+use Rattle.plan_law.specs.PlanLaws.{ImagesAreFound, FlipsLeadOn, FlippableEdges, FlipsAreFound, PlansHaveSchedules, CentresAreTriangulations, FollowingKeepsPlans, FollowingKeepsWeights, EdgesAreFollowed, MovesAreMade, Swaps, SwapsKeepPlans, SettlingEnds, SettlingIsDetermined, SettlingKeepsPlans}
 use Rattle.flip_list_law.proofs.Grouping.{grouping_replays}
 use Rattle.flip_list_law.proofs.GroupingShape.{length-grouped}
 use Rattle.flip_list_law.proofs.FlipLists.{list_triangulation, list_to_turns}
@@ -76,18 +75,16 @@ module _ (points : List Point) (P : ArePlaced points) where
   centre_triangulation (input ∷ inputs) centre [] n I h = absurd h
   centre_triangulation (input ∷ inputs) centre (flips ∷ lists) n I h = list_triangulation points P input centre flips I.0 h.0
 
-lists_total : (lists : List (List Flip)) → total (map grouped lists) ≡ sum (map round_count lists)
-lists_total lists = sum-map (λ rounds. length rounds) (map grouped lists) ∙ (each lists ∙ sym (sum-map round_count lists))
-  where
-    each : (lists : List (List Flip)) → sum_by (λ rounds. length rounds) (map grouped lists) ≡ sum_by round_count lists
-    each [] = refl
-    each (flips ∷ lists) = sum_by-cons (λ rounds. length rounds) (grouped flips) (map grouped lists) ∙ (ap₂ (λ m n. m + n) (length-grouped flips) (each lists) ∙ sym (sum_by-cons round_count flips lists))
+lists_total : (weights : List ℕ) (lists : List (List Flip)) → total weights (map grouped lists) ≡ weighted_sum weights (map round_count lists)
+lists_total [] lists = refl
+lists_total (w ∷ ws) [] = refl
+lists_total (w ∷ ws) (flips ∷ lists) = ap₂ (λ m n. w * m + n) (length-grouped flips) (lists_total ws lists)
 
 pub plans_have_schedules : PlansHaveSchedules
-plans_have_schedules points inputs plan N h = (lists_plan points N.placed inputs plan.centre plan.lists (each_of points inputs N.triangulated) h, lists_total plan.lists)
+plans_have_schedules points inputs plan N h = (lists_plan points N.placed inputs plan.centre plan.lists (each_of points inputs N.triangulated) h.lead, lists_total plan.weights plan.lists)
 
 pub centres_are_triangulations : CentresAreTriangulations
-centres_are_triangulations points inputs plan N h = centre_triangulation points N.placed inputs plan.centre plan.lists N.some_input (each_of points inputs N.triangulated) h
+centres_are_triangulations points inputs plan N h = centre_triangulation points N.placed inputs plan.centre plan.lists N.some_input (each_of points inputs N.triangulated) h.lead
 
 -- ---- following
 pub record Follows (points : List Point) (inputs : List (List Edge)) (plan : Plan) (e : Edge) (next : Plan) : Type 0 where
@@ -107,7 +104,7 @@ module _ (points : List Point) (inputs : List (List Edge)) (N : IsInstance point
       by_image (Some f) i k = subst (Follows points inputs plan e) same (record {
         image = f;
         leads = X;
-        is_plan = lists_follow points N.placed inputs plan.centre (after_flip plan.centre flip) plan.lists flip (each_of points inputs N.triangulated) h X;
+        is_plan = record { weighed = h.weighed; lead = lists_follow points N.placed inputs plan.centre (after_flip plan.centre flip) plan.lists flip (each_of points inputs N.triangulated) h.lead X };
       })
         where
           flip : Flip
@@ -159,6 +156,19 @@ module _ (points : List Point) (inputs : List (List Edge)) (N : IsInstance point
 
 pub following_keeps_plans : FollowingKeepsPlans
 following_keeps_plans points inputs plan next es N h f = follow_all points inputs N es plan next h f
+
+pub followed_weights : (points : List Point) (es : List Edge) (plan next : Plan) → followed_all points plan es ≡ Some next → next.weights ≡ plan.weights
+followed_weights points [] plan next f = let e : plan ≡ next = cc in ap (λ p. p.weights) (sym e)
+followed_weights points (e ∷ es) plan next f = by_image (image_of points plan.centre e) f (λ mid g. followed_weights points es mid next g)
+  where
+    by_image : (r : Option Edge)
+        → elim (elim r as (λ _. Option Plan) [ Some f ↦ Some (with_flip plan (record { edge = e; image = f })) | None ↦ None ]) as (λ _. Option Plan) [ Some mid ↦ followed_all points mid es | None ↦ None ] ≡ Some next
+        → ((mid : Plan) → followed_all points mid es ≡ Some next → next.weights ≡ mid.weights) → next.weights ≡ plan.weights
+    by_image None g again = absurd (cc)
+    by_image (Some f) g again = again (with_flip plan (record { edge = e; image = f })) g
+
+pub following_keeps_weights : FollowingKeepsWeights
+following_keeps_weights points plan next es f = followed_weights points es plan next f
 
 pub edges_are_followed : EdgesAreFollowed
 edges_are_followed points inputs plan es to N h t = edges_followed points inputs N es plan to h t
@@ -265,7 +275,7 @@ moves_are_made points inputs plan move N h c = by_turn (by_cases (contains_split
 
     by_cases : Contains (map (λ e. e ∷ []) (flippable points plan.centre)) move ⊎ Contains (last_moves plan.lists) move → (to : List Edge) × FlipInTurn points plan.centre move to
     by_cases (inl d) = single (singles_source (flippable points plan.centre) move d)
-    by_cases (inr d) = last_moves_turn points N.placed plan.centre C inputs plan.lists move (each_of points inputs N.triangulated) h d
+    by_cases (inr d) = last_moves_turn points N.placed plan.centre C inputs plan.lists move (each_of points inputs N.triangulated) h.lead d
 
     by_turn : (to : List Edge) × FlipInTurn points plan.centre move to → (next : Plan) × (followed_all points plan move ≡ Some next)
     by_turn (to, t) = made (edges_followed points inputs N move plan to h t)
@@ -281,10 +291,16 @@ set_lists points (input ∷ inputs) centre [] i flips h l L = absurd h
 set_lists points (input ∷ inputs) centre (old ∷ lists) zero flips h l L = (L, h.1)
 set_lists points (input ∷ inputs) centre (old ∷ lists) (suc i) flips h l L = (h.0, set_lists points inputs centre lists i flips h.1 (omega arith) L)
 
-set_sum : (f : List Flip → ℕ) (lists : List (List Flip)) (i : ℕ) (flips : List Flip) → i < length lists → sum_by f (set lists i flips) + f (get_or lists i []) ≡ sum_by f lists + f flips
-set_sum f [] i flips l = absurd (omega arith)
-set_sum f (old ∷ lists) zero flips l = omega (arith, sum_by-cons f flips lists, sum_by-cons f old lists)
-set_sum f (old ∷ lists) (suc i) flips l = let e = set_sum f lists i flips (omega arith) in omega (arith, e, sum_by-cons f old (set lists i flips), sum_by-cons f old lists)
+set_sum : (f : List Flip → ℕ) (weights : List ℕ) (lists : List (List Flip)) (i : ℕ) (flips : List Flip) → i < length lists
+    → weighted_sum weights (map f (set lists i flips)) + get_or weights i 0 * f (get_or lists i []) ≡ weighted_sum weights (map f lists) + get_or weights i 0 * f flips
+set_sum f weights [] i flips l = absurd (omega arith)
+set_sum f [] (old ∷ lists) i flips l = none i
+  where
+    none : (i : ℕ) → 0 + get_or [] i 0 * f (get_or (old ∷ lists) i []) ≡ 0 + get_or [] i 0 * f flips
+    none zero = omega arith
+    none (suc i) = omega arith
+set_sum f (w ∷ ws) (old ∷ lists) zero flips l = omega arith
+set_sum f (w ∷ ws) (old ∷ lists) (suc i) flips l = let e = set_sum f ws lists i flips (omega arith) in omega (arith, e)
 
 pub swaps_keep_plans : SwapsKeepPlans
 swaps_keep_plans points inputs plan i rounds N h l R = found (rounds_flip_in_turn points (input_at inputs i) plan.centre rounds N.placed I R.leads R.distinct)
@@ -293,7 +309,7 @@ swaps_keep_plans points inputs plan i rounds N h l R = found (rounds_flip_in_tur
     I = N.triangulated i [] l
 
     l' : i < length plan.lists
-    l' = omega (arith, l, AllZip-long (λ input flips. IsFlipList points input flips plan.centre) inputs plan.lists h)
+    l' = omega (arith, l, AllZip-long (λ input flips. IsFlipList points input flips plan.centre) inputs plan.lists h.lead)
 
     found : (flips : List Flip) × (flipped_edges flips ≡ in_turn rounds) × IsFlipList points (input_at inputs i) flips plan.centre × (round_count flips ≤ length rounds) → Swaps points inputs plan i rounds
     found (flips, e, L, n) = record {
@@ -301,8 +317,9 @@ swaps_keep_plans points inputs plan i rounds N h l R = found (rounds_flip_in_tur
       is_swapped =
           ap (λ r. elim r as (λ _. Option Plan) [ Some flips ↦ Some (with_list plan i flips) | None ↦ None ])
           (subst (λ es. flips_in_turn points (input_at inputs i) es ≡ Some flips) e (turns_found points N.placed flips (input_at inputs i) plan.centre I L));
-      is_plan = set_lists points inputs plan.centre plan.lists i flips h l L;
+      is_plan = record { weighed = h.weighed; lead = set_lists points inputs plan.centre plan.lists i flips h.lead l L };
       same_centre = refl;
+      same_weights = refl;
       edges = ap flipped_edges here ∙ e;
       no_more = subst (λ z. round_count z ≤ length rounds) (sym here) n;
       others = λ k ne. (let o : get_or (set plan.lists i flips) k [] ≡ get_or plan.lists k [] = get_or-set_other plan.lists i k flips [] ne in o);
@@ -312,8 +329,8 @@ swaps_keep_plans points inputs plan i rounds N h l R = found (rounds_flip_in_tur
         here : get_or (set plan.lists i flips) i [] ≡ flips
         here = get_or-set_same plan.lists i flips [] l'
 
-        sums : plan_total (with_list plan i flips) + round_count (get_or plan.lists i []) ≡ plan_total plan + round_count (get_or (set plan.lists i flips) i [])
-        sums = let a = ap round_count here in omega (arith, a, set_sum round_count plan.lists i flips l', sum-map round_count (set plan.lists i flips), sum-map round_count plan.lists)
+        sums : plan_total (with_list plan i flips) + get_or plan.weights i 0 * round_count (get_or plan.lists i []) ≡ plan_total plan + get_or plan.weights i 0 * round_count (get_or (set plan.lists i flips) i [])
+        sums = set_sum round_count plan.weights plan.lists i flips l' ∙ ap (λ fs. plan_total plan + get_or plan.weights i 0 * round_count fs) (sym here)
 
 -- ---- settling
 pub lowers_means : (points : List Point) (plan : Plan) (es : List Edge) → lowers points plan es ≡ true → (next : Plan) × (followed_all points plan es ≡ Some next) × (plan_total next < plan_total plan)

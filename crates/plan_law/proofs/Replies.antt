@@ -1,15 +1,14 @@
 -- The reply to an event is determined.
 use Rattle.std.proofs.Common.{◌≡◌, ◌⊎◌, inl, inr, ℕ, zero, suc, ◌-◌, ◌<◌, ◌≤◌, Bool, true, false, Option, Some, None, List, [], ◌∷◌, length, take, refl, sym, ap, ap₂, ◌∙◌, subst, arith}
-use Rattle.std.specs.Prelude.{slice_get}
+use Rattle.std.specs.Prelude.{sum, slice_get}
 use native.Mathlib.Decide.{dec_le, ℕ_discrete}
 use Rattle.std.proofs.Math.Seq.{take-length}
 use Rattle.geo_orient.specs.declared.Point.{Point}
 use Rattle.edge_table.specs.declared.edge.Edge.{Edge}
 use Rattle.plan_law.specs.Images.{image_of}
-use Rattle.assignment_law.specs.Assignments.{assignment_bound}
 use Rattle.bound_law.specs.Bounds.{input_at}
 use Rattle.plan_law.specs.Plans.{IsInstance, Plan, plan_total, with_flip, followed, followed_all, swapped}
-use Rattle.plan_law.specs.Books.{PairRow, Entry, Move, Swap, Row, Pack, is_plan_entry, State, bound, row_of, lower_of, AreRoundsOf, MayBeOffered, IsFit, Book, state_of, front}
+use Rattle.plan_law.specs.Books.{PairRow, Entry, Move, Swap, Row, Pack, is_plan_entry, State, bound_of, bound, row_of, AreRoundsOf, MayBeOffered, IsFit, Book, state_of, front}
 use Rattle.plan_law.specs.Worlds.{Replica, Refusal, Stale, BadMove, BadSwap, NotBetter, Taken, NoRise, StopsAt, IsNoBetter, IsUnfit, IsStale, IsRefused, IsAccepted, with_entry, Event, Join, Catch, Offer, Reply, Joined, Caught, Accepted, Refused, World, Step}
 use Rattle.plan_law.specs.Replays.{SwapFault, swap_fault}
 use Rattle.plan_law.specs.PlanLaws.{Swaps}
@@ -70,9 +69,9 @@ one_no_better plan r held given m n (next, f, h, g, l) k = let s = no_better pla
 abbrev AreClear : List Point → List (List Edge) → Plan → Type 0
 AreClear points inputs plan = (i : ℕ) (rounds : List (List Edge)) → i < length inputs → AreRoundsOf points (input_at inputs i) rounds plan.centre → swap_fault points (input_at inputs i) rounds plan.centre ≡ None
 
-module _ (E : Type 0) (justified : PairRow E → Type 0) (points : List Point) (inputs : List (List Edge)) (state : State E) (clear : AreClear points inputs state.plan) where
+module _ (E : Type 0) (justified : PairRow E → Type 0) (points : List Point) (inputs : List (List Edge)) (copies : ℕ) (state : State E) (clear : AreClear points inputs state.plan) where
   abbrev May : Entry E → Type 0
-  May entry = MayBeOffered justified (length inputs) entry
+  May entry = MayBeOffered justified (length inputs) copies entry
 
   fit_unfit : (entry : Entry E) (refusal : Refusal) → May entry → IsFit points inputs state entry → IsUnfit points inputs state entry refusal → ⊥
   fit_unfit (Move turn edges) (BadMove place) m (next, f, l) h = stops_whole points edges state.plan next place h f
@@ -140,15 +139,15 @@ module _ (E : Type 0) (justified : PairRow E → Type 0) (points : List Point) (
   refused_cases book base entry (Taken i j) h = inr (λ s. let a = s.0 in let b = taken_kind (state_of points inputs book) entry i j h in cc, h)
   refused_cases book base entry (NoRise i j) h = inr (λ s. let a = s.0 in let b = rise_kind (state_of points inputs book) entry i j h in cc, h)
 
-  accepted_refused : (book : Book E) → AreClear points inputs (state_of points inputs book).plan → (base : ℕ) (entry : Entry E) (place saved : ℕ) (refusal : Refusal) → MayBeOffered justified (length inputs) entry → IsAccepted points inputs book base entry place saved → IsRefused points inputs book base entry refusal → ⊥
-  accepted_refused book clear base entry place saved refusal m A R = by_cases (refused_cases book base entry refusal R)
+  accepted_refused : (copies : ℕ) (book : Book E) → AreClear points inputs (state_of points inputs book).plan → (base : ℕ) (entry : Entry E) (place saved : ℕ) (refusal : Refusal) → MayBeOffered justified (length inputs) copies entry → IsAccepted points inputs book base entry place saved → IsRefused points inputs book base entry refusal → ⊥
+  accepted_refused copies book clear base entry place saved refusal m A R = by_cases (refused_cases book base entry refusal R)
     where
       by_cases : (IsStale book base entry × (refusal ≡ Stale base (front book.journal))) ⊎ ((¬ IsStale book base entry) × IsUnfit points inputs (state_of points inputs book) entry refusal) → ⊥
       by_cases (inl (s, _)) = A.fresh s
-      by_cases (inr (_, u)) = fit_unfit E justified points inputs (state_of points inputs book) clear entry refusal m A.fit u
+      by_cases (inr (_, u)) = fit_unfit E justified points inputs copies (state_of points inputs book) clear entry refusal m A.fit u
 
-  one_refusal : (book : Book E) → AreClear points inputs (state_of points inputs book).plan → (base : ℕ) (entry : Entry E) (refusal other : Refusal) → MayBeOffered justified (length inputs) entry → IsRefused points inputs book base entry refusal → IsRefused points inputs book base entry other → refusal ≡ other
-  one_refusal book clear base entry refusal other m R R' = by_cases (refused_cases book base entry refusal R) (refused_cases book base entry other R')
+  one_refusal : (copies : ℕ) (book : Book E) → AreClear points inputs (state_of points inputs book).plan → (base : ℕ) (entry : Entry E) (refusal other : Refusal) → MayBeOffered justified (length inputs) copies entry → IsRefused points inputs book base entry refusal → IsRefused points inputs book base entry other → refusal ≡ other
+  one_refusal copies book clear base entry refusal other m R R' = by_cases (refused_cases book base entry refusal R) (refused_cases book base entry other R')
     where
       Cause : Refusal → Type 0
       Cause r = (IsStale book base entry × (r ≡ Stale base (front book.journal))) ⊎ ((¬ IsStale book base entry) × IsUnfit points inputs (state_of points inputs book) entry r)
@@ -157,7 +156,7 @@ module _ (E : Type 0) (justified : PairRow E → Type 0) (points : List Point) (
       by_cases (inl (s, a)) (inl (_, b)) = a ∙ sym b
       by_cases (inl (s, a)) (inr (f, _)) = absurd (f s)
       by_cases (inr (f, _)) (inl (s, b)) = absurd (f s)
-      by_cases (inr (f, u)) (inr (_, v)) = unfit_one E justified points inputs (state_of points inputs book) clear entry refusal other m u v
+      by_cases (inr (f, u)) (inr (_, v)) = unfit_one E justified points inputs copies (state_of points inputs book) clear entry refusal other m u v
 
   same_replica : (replicas : List Replica) (r : ℕ) (a b : Replica) → slice_get replicas r ≡ Some a → slice_get replicas r ≡ Some b → a ≡ b
   same_replica replicas r a b h k = let e : Some a ≡ Some b = sym h ∙ k in cc
@@ -165,11 +164,11 @@ module _ (E : Type 0) (justified : PairRow E → Type 0) (points : List Point) (
   offers : (old new other : World E) → AreClear points inputs (state_of points inputs old.book).plan → (r : ℕ) (entry : Entry E) (reply answer : Reply) → Step justified points inputs old (Offer r entry) (Some reply) new → Step justified points inputs old (Offer r entry) (Some answer) other → (reply ≡ answer) × (new ≡ other)
   offers old new other clear r entry (Accepted p s) (Accepted q t) (a, f, m, A, e) (b, g, n, B, h) = (ap₂ Accepted (A.at_end ∙ sym B.at_end) (A.saves ∙ sym B.saves), e ∙ sym h)
   offers old new other clear r entry (Accepted p s) (Refused refusal) (a, f, m, A, e) (b, g, n, B, h) =
-      absurd (accepted_refused old.book clear a.front entry p s refusal m A (subst (λ (c : Replica). IsRefused points inputs old.book c.front entry refusal) (same_replica old.replicas r b a g f) B))
+      absurd (accepted_refused (sum old.book.opening.weights) old.book clear a.front entry p s refusal m A (subst (λ (c : Replica). IsRefused points inputs old.book c.front entry refusal) (same_replica old.replicas r b a g f) B))
   offers old new other clear r entry (Refused refusal) (Accepted q t) (a, f, m, A, e) (b, g, n, B, h) =
-      absurd (accepted_refused old.book clear b.front entry q t refusal m B (subst (λ (c : Replica). IsRefused points inputs old.book c.front entry refusal) (same_replica old.replicas r a b f g) A))
+      absurd (accepted_refused (sum old.book.opening.weights) old.book clear b.front entry q t refusal m B (subst (λ (c : Replica). IsRefused points inputs old.book c.front entry refusal) (same_replica old.replicas r a b f g) A))
   offers old new other clear r entry (Refused refusal) (Refused cause) (a, f, m, A, e) (b, g, n, B, h) =
-      (ap Refused (one_refusal old.book clear a.front entry refusal cause m A (subst (λ (c : Replica). IsRefused points inputs old.book c.front entry cause) (same_replica old.replicas r b a g f) B)), e ∙ sym h)
+      (ap Refused (one_refusal (sum old.book.opening.weights) old.book clear a.front entry refusal cause m A (subst (λ (c : Replica). IsRefused points inputs old.book c.front entry cause) (same_replica old.replicas r b a g f) B)), e ∙ sym h)
   offers old new other clear r entry _ _ h k = absurd (assumption (h, k))
 
   replies : (old new other : World E) → AreClear points inputs (state_of points inputs old.book).plan → (event : Event E) (reply answer : Reply) → Step justified points inputs old event (Some reply) new → Step justified points inputs old event (Some answer) other → (reply ≡ answer) × (new ≡ other)
@@ -205,8 +204,8 @@ module _ (E : Type 0) (justified : PairRow E → Type 0) (points : List Point) (
   centre_clear : AreClear points inputs state.plan
   centre_clear i rounds l R = (faultless_rounds_lead points (input_at inputs i) state.plan.centre rounds N.placed (N.triangulated i [] l) (centres_are_triangulations points inputs state.plan N K.is_plan)).1 R
 
-  judged : (entry : Entry E) → MayBeOffered justified (length inputs) entry → IsFit points inputs state entry ⊎ ((refusal : Refusal) × IsUnfit points inputs state entry refusal)
-  judged (Move turn edges) m = by_next (followed_all points state.plan edges) refl
+  judged : (copies : ℕ) (entry : Entry E) → MayBeOffered justified (length inputs) copies entry → IsFit points inputs state entry ⊎ ((refusal : Refusal) × IsUnfit points inputs state entry refusal)
+  judged copies (Move turn edges) m = by_next (followed_all points state.plan edges) refl
     where
       stopped : (p : ℕ) × StopsAt points state.plan edges p → (refusal : Refusal) × IsUnfit points inputs state (Move turn edges) refusal
       stopped (p, s) = (BadMove p, s)
@@ -218,7 +217,7 @@ module _ (E : Type 0) (justified : PairRow E → Type 0) (points : List Point) (
       by_next : (r : Option Plan) → followed_all points state.plan edges ≡ r → IsFit points inputs state (Move turn edges) ⊎ ((refusal : Refusal) × IsUnfit points inputs state (Move turn edges) refusal)
       by_next None e = inr (stopped (stop_place points edges state.plan e))
       by_next (Some next) e = by_total next e (dec_le (suc (plan_total next)) (plan_total state.plan))
-  judged (Swap turn input rounds) m = by_fault (swap_fault points (input_at inputs input) rounds state.plan.centre) refl
+  judged copies (Swap turn input rounds) m = by_fault (swap_fault points (input_at inputs input) rounds state.plan.centre) refl
     where
       Goal : Type 0
       Goal = IsFit points inputs state (Swap turn input rounds) ⊎ ((refusal : Refusal) × IsUnfit points inputs state (Swap turn input rounds) refusal)
@@ -235,16 +234,16 @@ module _ (E : Type 0) (justified : PairRow E → Type 0) (points : List Point) (
       by_fault None e =
           let R = (faultless_rounds_lead points (input_at inputs input) state.plan.centre rounds N.placed (N.triangulated input [] m) (centres_are_triangulations points inputs state.plan N K.is_plan)).0 e in
           by_swap R (swaps_keep_plans points inputs state.plan input rounds N K.is_plan m R)
-  judged (Row turn row) m = by_row (row_of state.rows row.low row.high) refl
+  judged copies (Row turn row) m = by_row (row_of state.rows row.low row.high) refl
     where
       by_row : (r : Option (PairRow E)) → row_of state.rows row.low row.high ≡ r → IsFit points inputs state (Row turn row) ⊎ ((refusal : Refusal) × IsUnfit points inputs state (Row turn row) refusal)
       by_row None e = inl e
       by_row (Some old) e = inr (Taken row.low row.high, (λ n. cc, refl, refl))
-  judged (Pack turn assignment) m = by_bound (dec_le (suc (bound state)) (assignment_bound (lower_of state.rows) assignment))
+  judged copies (Pack turn assignment) m = by_bound (dec_le (suc (bound state)) (bound_of state assignment))
     where
-      by_bound : Dec (suc (bound state) ≤ assignment_bound (lower_of state.rows) assignment) → IsFit points inputs state (Pack turn assignment) ⊎ ((refusal : Refusal) × IsUnfit points inputs state (Pack turn assignment) refusal)
+      by_bound : Dec (suc (bound state) ≤ bound_of state assignment) → IsFit points inputs state (Pack turn assignment) ⊎ ((refusal : Refusal) × IsUnfit points inputs state (Pack turn assignment) refusal)
       by_bound (yes l) = inl (omega arith)
-      by_bound (no l) = inr (NoRise (bound state) (assignment_bound (lower_of state.rows) assignment), (refl, refl, omega arith))
+      by_bound (no l) = inr (NoRise (bound state) (bound_of state assignment), (refl, refl, omega arith))
 
 module _ (E : Type 0) (justified : PairRow E → Type 0) (points : List Point) (inputs : List (List Edge)) where
   refused_unfit : (book : Book E) (base : ℕ) (entry : Entry E) (refusal : Refusal) → ¬ IsStale book base entry → IsUnfit points inputs (state_of points inputs book) entry refusal → IsRefused points inputs book base entry refusal
@@ -266,7 +265,7 @@ module _ (E : Type 0) (justified : PairRow E → Type 0) (points : List Point) (
       by_kind true e (no n) = yes (e, n)
       by_kind false e _ = no (λ s. let t = s.0 in cc)
 
-  answered : (N : IsInstance points inputs) (old : World E) (r : ℕ) (replica : Replica) (entry : Entry E) → IsState justified points inputs (state_of points inputs old.book) → slice_get old.replicas r ≡ Some replica → MayBeOffered justified (length inputs) entry
+  answered : (N : IsInstance points inputs) (old : World E) (r : ℕ) (replica : Replica) (entry : Entry E) → IsState justified points inputs (state_of points inputs old.book) → slice_get old.replicas r ≡ Some replica → MayBeOffered justified (length inputs) (sum old.book.opening.weights) entry
       → (reply : Reply) × (new : World E) × Step justified points inputs old (Offer r entry) (Some reply) new
   answered N old r replica entry K found m = by_stale (stale_decided old.book replica.front entry)
     where
@@ -283,7 +282,7 @@ module _ (E : Type 0) (justified : PairRow E → Type 0) (points : List Point) (
 
       by_stale : Dec (IsStale old.book replica.front entry) → Goal
       by_stale (yes s) = (Refused (Stale replica.front (front old.book.journal)), old, (replica, found, m, (s, refl, refl), refl))
-      by_stale (no n) = by_judged n (judged E justified points inputs N (state_of points inputs old.book) K entry m)
+      by_stale (no n) = by_judged n (judged E justified points inputs N (state_of points inputs old.book) K (sum old.book.opening.weights) entry m)
 
 pub replies_are_determined : (E : Type 0) (justified : Justification E) → RepliesAreDetermined E justified
 replies_are_determined E justified points inputs old new other event reply answer N W h k =

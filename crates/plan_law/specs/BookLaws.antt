@@ -1,5 +1,5 @@
 -- The laws of books and worlds, for each kind of evidence and each notion of justified rows.
-use Rattle.std.specs.Prelude.{◌≡◌, ◌⊎◌, ◌↔◌, ℕ, ◌+◌, ◌-◌, ◌<◌, ◌≤◌, true, Option, Some, List, [], ◌∷◌, ◌++◌, length, slice_get, take, All, Contains}
+use Rattle.std.specs.Prelude.{◌≡◌, ◌⊎◌, ◌↔◌, ℕ, ◌+◌, ◌-◌, ◌<◌, ◌≤◌, true, Option, Some, List, [], ◌∷◌, ◌++◌, length, sum, slice_get, take, All, Contains}
 use Rattle.geo_orient.specs.declared.Point.{Point}
 use Rattle.edge_table.specs.declared.edge.Edge.{Edge}
 use Rattle.tri_theory.specs.Rounds.{Within, IsPlan, total}
@@ -8,7 +8,7 @@ use Rattle.crossing_law.specs.Digits.{digits}
 use Rattle.assignment_law.specs.Assignments.{IsAssignment}
 use Rattle.bound_law.specs.Bounds.{input_at}
 use Rattle.plan_law.specs.Plans.{IsInstance, IsPlanOf, plan_total}
-use Rattle.plan_law.specs.Books.{PairRow, IsTrueRow, Entry, is_plan_entry, State, bound, after_entry, state_after, MayBeOffered, IsFit, IsLegal, Book, state_of, front, IsBook}
+use Rattle.plan_law.specs.Books.{PairRow, IsTrueRow, lower_of, Entry, is_plan_entry, State, bound, after_entry, state_after, MayBeOffered, IsFit, IsLegal, Book, state_of, front, IsBook}
 use Rattle.plan_law.specs.Worlds.{Replica, Event, Offer, Reply, World, world_at, Step, Run, IsWorld}
 
 -- what makes a row justified, for the points and inputs of an instance
@@ -38,17 +38,22 @@ FitEntriesImprove E =
 abbrev pub JournalsGrow : (E : Type 0) → Justification E → Type 0
 JournalsGrow E justified =
     (points : List Point) (inputs : List (List Edge)) (start : State E) (journal : List (Entry E)) (entry : Entry E) → IsLegal (justified points inputs) points inputs start journal
-    → MayBeOffered (justified points inputs) (length inputs) entry → IsFit points inputs (state_after points inputs start journal) entry → IsLegal (justified points inputs) points inputs start (journal ++ (entry ∷ []))
+    → MayBeOffered (justified points inputs) (length inputs) (sum start.plan.weights) entry → IsFit points inputs (state_after points inputs start journal) entry → IsLegal (justified points inputs) points inputs start (journal ++ (entry ∷ []))
 
--- the state after a legal journal has a plan, an assignment of the inputs, and justified rows
+-- the state after a legal journal has a plan, an assignment of the copies, and justified rows
 pub record IsState {E : Type 0} (justified : PairRow E → Type 0) (points : List Point) (inputs : List (List Edge)) (state : State E) : Type 0 where
   pub is_plan : IsPlanOf points inputs state.plan
-  pub is_assignment : IsAssignment (length inputs) state.assignment
+  pub is_assignment : IsAssignment (sum state.plan.weights) state.assignment
   pub are_justified : All (λ row. (row.low < row.high) × (row.high < length inputs) × justified row) state.rows
 
 abbrev pub BooksKeepPlans : (E : Type 0) → Justification E → Type 0
 BooksKeepPlans E justified =
     (points : List Point) (inputs : List (List Edge)) (book : Book E) → IsInstance points inputs → IsBook (justified points inputs) points inputs book → IsState (justified points inputs) points inputs (state_of points inputs book)
+
+-- its plan has the weights of the start
+abbrev pub JournalsKeepWeights : Type 0 → Type 0
+JournalsKeepWeights E =
+    (points : List Point) (inputs : List (List Edge)) (start : State E) (journal : List (Entry E)) → (state_after points inputs start journal).plan.weights ≡ start.plan.weights
 
 -- each entry of a legal journal improves
 abbrev pub JournalsImprove : (E : Type 0) → Justification E → Type 0
@@ -67,7 +72,7 @@ JournalsNeverWorsen E justified =
 abbrev pub BooksBoundPlans : (E : Type 0) → Justification E → Type 0
 BooksBoundPlans E justified =
     JustifiedRowsAreTrue E justified → (points : List Point) (inputs : List (List Edge)) (book : Book E) (centre : List Edge) (schedules : List (List (List Edge))) → IsInstance points inputs
-    → IsBook (justified points inputs) points inputs book → IsPlan points inputs centre schedules → bound (state_of points inputs book) ≤ total schedules
+    → IsBook (justified points inputs) points inputs book → IsPlan points inputs centre schedules → bound (state_of points inputs book) ≤ total book.opening.weights schedules
 
 -- ---- worlds
 
@@ -104,10 +109,18 @@ RepliesAreDetermined E justified =
 abbrev pub OffersAreAnswered : (E : Type 0) → Justification E → Type 0
 OffersAreAnswered E justified =
     (points : List Point) (inputs : List (List Edge)) (old : World E) (r : ℕ) (replica : Replica) (entry : Entry E) → IsInstance points inputs → IsWorld (justified points inputs) points inputs old
-    → slice_get old.replicas r ≡ Some replica → MayBeOffered (justified points inputs) (length inputs) entry
+    → slice_get old.replicas r ≡ Some replica → MayBeOffered (justified points inputs) (length inputs) (sum old.book.opening.weights) entry
     → (reply : Reply) × (new : World E) × Step (justified points inputs) points inputs old (Offer r entry) (Some reply) new
 
 -- ---- rows
+
+-- the lower bound of two inputs is that of the two in the other order, and 0 of an input and itself. So it is 0 of two copies of one input
+pub record IsSymmetric {E : Type 0} (rows : List (PairRow E)) : Type 0 where
+  pub other_order : (i j : ℕ) → lower_of rows i j ≡ lower_of rows j i
+  pub itself : All (λ row. row.low < row.high) rows → (i : ℕ) → lower_of rows i i ≡ 0
+
+abbrev pub LowerBoundsAreSymmetric : Type 0 → Type 0
+LowerBoundsAreSymmetric E = (rows : List (PairRow E)) → IsSymmetric rows
 
 -- a row is true where an edge of the one input is crossed by so many members of the other that their number has as many binary digits as the lower bound says
 abbrev pub CrossedRowsAreTrue : Type 0 → Type 0

@@ -1,10 +1,11 @@
 -- Books: an opening plan and a journal of entries. What a state is, which entries are fit, and which journals are legal.
-use Rattle.std.specs.Prelude.{◌≡◌, ◌≢◌, ℕ, ◌<◌, min, max, Bool, true, false, ◌&&◌, eqb, Option, Some, None, unwrap_or, List, [], ◌∷◌, ◌++◌, length, find, All, AllPairs, count_by}
+use Rattle.std.specs.Prelude.{◌≡◌, ◌≢◌, ℕ, ◌<◌, min, max, Bool, true, false, ◌&&◌, eqb, Option, Some, None, unwrap_or, List, [], ◌∷◌, ◌++◌, length, sum, find, All, AllPairs, count_by}
 use Rattle.std.specs.List.{range_with_len}
 use Rattle.geo_orient.specs.declared.Point.{Point}
 use Rattle.edge_table.specs.declared.edge.Edge.{Edge}
 use Rattle.tri_theory.specs.Rounds.{IsSchedule, Within}
 use Rattle.assignment_law.specs.Assignments.{IsAssignment, assignment_bound}
+use Rattle.bound_law.specs.Copies.{copy_lower}
 use Rattle.bound_law.specs.Bounds.{input_at}
 use Rattle.plan_law.specs.Plans.{Plan, IsPlanOf, plan_total, followed_all, swapped}
 
@@ -51,16 +52,20 @@ pub record State (E : Type 0) : Type 0 where
   pub rows : List (PairRow E)
   pub assignment : List ℕ
 
--- half the sum of the assigned lower bounds, rounded up
-abbrev pub bound : {E : Type 0} → State E → ℕ
-bound state = assignment_bound (lower_of state.rows) state.assignment
+-- half the sum of the lower bounds that an assignment of the copies has, rounded up
+abbrev pub bound_of : {E : Type 0} → State E → List ℕ → ℕ
+bound_of state assignment = assignment_bound (copy_lower state.plan.weights (lower_of state.rows)) assignment
 
--- each input is assigned to itself
+-- that of its own assignment
+abbrev pub bound : {E : Type 0} → State E → ℕ
+bound state = bound_of state state.assignment
+
+-- each copy is assigned to itself
 abbrev pub identity : ℕ → List ℕ
 identity n = range_with_len 0 n
 
 abbrev pub opening_state : {E : Type 0} → Plan → State E
-opening_state plan = record { plan = plan; rows = []; assignment = identity (length plan.lists) }
+opening_state plan = record { plan = plan; rows = []; assignment = identity (sum plan.weights) }
 
 -- the plan after an entry, if its edges can be followed, or the edges of its rounds flip in turn
 abbrev pub plan_after : {E : Type 0} → List Point → List (List Edge) → Plan → Entry E → Option Plan
@@ -100,12 +105,12 @@ pub record AreRoundsOf (points : List Point) (input : List Edge) (rounds : List 
   pub distinct : All (λ round. AllPairs ◌≢◌ round) rounds
   pub leads : IsSchedule points input rounds centre
 
--- an input that is there, a justified row of two inputs, or an assignment of the inputs
-abbrev pub MayBeOffered : {E : Type 0} → (PairRow E → Type 0) → ℕ → Entry E → Type 0
-MayBeOffered justified count (Move turn edges) = Unit {0}
-MayBeOffered justified count (Swap turn input rounds) = input < count
-MayBeOffered justified count (Row turn row) = (row.low < row.high) × (row.high < count) × justified row
-MayBeOffered justified count (Pack turn assignment) = IsAssignment count assignment
+-- an input that is there, a justified row of two inputs, or an assignment of the copies
+abbrev pub MayBeOffered : {E : Type 0} → (PairRow E → Type 0) → ℕ → ℕ → Entry E → Type 0
+MayBeOffered justified count copies (Move turn edges) = Unit {0}
+MayBeOffered justified count copies (Swap turn input rounds) = input < count
+MayBeOffered justified count copies (Row turn row) = (row.low < row.high) × (row.high < count) × justified row
+MayBeOffered justified count copies (Pack turn assignment) = IsAssignment copies assignment
 
 -- what comes after the plan is a plan of a lower total
 abbrev pub Lowers : Plan → Option Plan → Type 0
@@ -115,13 +120,13 @@ abbrev pub IsFit : {E : Type 0} → List Point → List (List Edge) → State E 
 IsFit points inputs state (Move turn edges) = Lowers state.plan (followed_all points state.plan edges)
 IsFit points inputs state (Swap turn input rounds) = AreRoundsOf points (input_at inputs input) rounds state.plan.centre × Lowers state.plan (swapped points inputs state.plan input rounds)
 IsFit points inputs state (Row turn row) = row_of state.rows row.low row.high ≡ None
-IsFit points inputs state (Pack turn assignment) = bound state < assignment_bound (lower_of state.rows) assignment
+IsFit points inputs state (Pack turn assignment) = bound state < bound_of state assignment
 
 -- each entry is fit at the state after the earlier ones
 abbrev pub IsLegal : {E : Type 0} → (PairRow E → Type 0) → List Point → List (List Edge) → State E → List (Entry E) → Type 0
 IsLegal justified points inputs state [] = Unit {0}
 IsLegal justified points inputs state (entry ∷ journal) =
-    MayBeOffered justified (length inputs) entry × IsFit points inputs state entry × IsLegal justified points inputs (after_entry points inputs state entry) journal
+    MayBeOffered justified (length inputs) (sum state.plan.weights) entry × IsFit points inputs state entry × IsLegal justified points inputs (after_entry points inputs state entry) journal
 
 -- ---- books
 

@@ -1,5 +1,5 @@
 -- The laws of plans. Each is the contract of a function of the crate, so each is proved.
-use Rattle.std.specs.Prelude.{◌≡◌, ◌≢◌, ◌↔◌, ℕ, ◌+◌, ◌<◌, ◌≤◌, Some, List, [], length, slice_index_or, Contains}
+use Rattle.std.specs.Prelude.{◌≡◌, ◌≢◌, ◌↔◌, ℕ, ◌+◌, ◌*◌, ◌<◌, ◌≤◌, Some, List, [], length, slice_index_or, Contains}
 use Rattle.geo_orient.specs.declared.Point.{Point}
 use Rattle.tri_theory.specs.Points.{ArePlaced}
 use Rattle.edge_table.specs.declared.edge.Edge.{Edge}
@@ -38,11 +38,11 @@ FlipsAreFound =
 
 -- ---- plans
 
--- the lists of a plan, grouped, are schedules to its centre, and their rounds are its total
+-- the lists of a plan, grouped, are schedules to its centre, and have its total
 abbrev pub PlansHaveSchedules : Type 0
 PlansHaveSchedules =
     (points : List Point) (inputs : List (List Edge)) (plan : Plan) → IsInstance points inputs → IsPlanOf points inputs plan
-    → IsPlan points inputs plan.centre (schedules plan) × (total (schedules plan) ≡ plan_total plan)
+    → IsPlan points inputs plan.centre (schedules plan) × (total plan.weights (schedules plan) ≡ plan_total plan)
 
 -- its centre is a triangulation
 abbrev pub CentresAreTriangulations : Type 0
@@ -54,6 +54,10 @@ abbrev pub FollowingKeepsPlans : Type 0
 FollowingKeepsPlans =
     (points : List Point) (inputs : List (List Edge)) (plan next : Plan) (es : List Edge) → IsInstance points inputs → IsPlanOf points inputs plan → followed_all points plan es ≡ Some next
     → IsPlanOf points inputs next × FlipInTurn points plan.centre es next.centre
+
+-- and it keeps its weights
+abbrev pub FollowingKeepsWeights : Type 0
+FollowingKeepsWeights = (points : List Point) (plan next : Plan) (es : List Edge) → followed_all points plan es ≡ Some next → next.weights ≡ plan.weights
 
 -- and it can follow edges that flip in turn
 abbrev pub EdgesAreFollowed : Type 0
@@ -73,10 +77,11 @@ pub record Swaps (points : List Point) (inputs : List (List Edge)) (plan : Plan)
   pub is_swapped : swapped points inputs plan i rounds ≡ Some next
   pub is_plan : IsPlanOf points inputs next
   pub same_centre : next.centre ≡ plan.centre
+  pub same_weights : next.weights ≡ plan.weights
   pub edges : flipped_edges (slice_index_or next.lists i []) ≡ in_turn rounds
   pub no_more : round_count (slice_index_or next.lists i []) ≤ length rounds
   pub others : (k : ℕ) → k ≢ i → slice_index_or next.lists k [] ≡ slice_index_or plan.lists k []
-  pub totals : plan_total next + round_count (slice_index_or plan.lists i []) ≡ plan_total plan + round_count (slice_index_or next.lists i [])
+  pub totals : plan_total next + slice_index_or plan.weights i 0 * round_count (slice_index_or plan.lists i []) ≡ plan_total plan + slice_index_or plan.weights i 0 * round_count (slice_index_or next.lists i [])
 
 abbrev pub SwapsKeepPlans : Type 0
 SwapsKeepPlans =

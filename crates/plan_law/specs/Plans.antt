@@ -1,10 +1,11 @@
--- Plans: a centre, and for each input a list of flips that leads to it. Following edges, the moves of a plan, and settling.
-use Rattle.std.specs.Prelude.{◌≡◌, ℕ, ◌<◌, ◌≤◌, Bool, false, nat_lt, Option, Some, None, List, [], ◌∷◌, ◌++◌, map, length, sum, find, set, All, Contains}
+-- Plans: a centre, and for each input its weight and a list of flips that leads to the centre. Following edges, the moves of a plan, and settling.
+use Rattle.std.specs.Prelude.{◌≡◌, ℕ, ◌<◌, ◌≤◌, Bool, false, nat_lt, Option, Some, None, List, [], ◌∷◌, ◌++◌, map, length, find, set, All, Contains}
 use Rattle.std.specs.List.{AllZip}
 use Rattle.geo_orient.specs.declared.Point.{Point}
 use Rattle.tri_theory.specs.Points.{ArePlaced}
 use Rattle.edge_table.specs.declared.edge.Edge.{Edge}
 use Rattle.tri_theory.specs.Triangulations.{IsTriangulation}
+use Rattle.tri_theory.specs.Rounds.{AreWeights, weighted_sum}
 use Rattle.flip_list_law.specs.declared.Flip.{Flip}
 use Rattle.flip_list_law.specs.FlipLists.{IsFlipList, round_count, grouped, last_images, in_turn, follow}
 use Rattle.bound_law.specs.Bounds.{input_at}
@@ -18,28 +19,30 @@ pub record IsInstance (points : List Point) (inputs : List (List Edge)) : Type 0
 
 pub record Plan : Type 0 where
   pub centre : List Edge
+  pub weights : List ℕ
   pub lists : List (List Flip)
 
--- each list is a flip list from its input to the centre
-abbrev pub IsPlanOf : List Point → List (List Edge) → Plan → Type 0
-IsPlanOf points inputs plan = AllZip (λ input flips. IsFlipList points input flips plan.centre) inputs plan.lists
+-- each input has a weight, and each list is a flip list from its input to the centre
+pub record IsPlanOf (points : List Point) (inputs : List (List Edge)) (plan : Plan) : Type 0 where
+  pub weighed : AreWeights inputs plan.weights
+  pub lead : AllZip (λ input flips. IsFlipList points input flips plan.centre) inputs plan.lists
 
 -- the schedules of a plan: its lists, grouped into rounds
 abbrev pub schedules : Plan → List (List (List Edge))
 schedules plan = map grouped plan.lists
 
--- the rounds of each list, and of all
+-- the rounds of each list, and of all, each as often as the weight of its input says
 abbrev pub costs : Plan → List ℕ
 costs plan = map round_count plan.lists
 
 abbrev pub plan_total : Plan → ℕ
-plan_total plan = sum (costs plan)
+plan_total plan = weighted_sum plan.weights (costs plan)
 
 -- ---- following
 
 -- a flip is followed in every list
 abbrev pub with_flip : Plan → Flip → Plan
-with_flip plan flip = record { centre = after_flip plan.centre flip; lists = map (λ flips. follow flips flip) plan.lists }
+with_flip plan flip = record { centre = after_flip plan.centre flip; weights = plan.weights; lists = map (λ flips. follow flips flip) plan.lists }
 
 -- an edge is followed, if it flips in the centre
 abbrev pub followed : List Point → Plan → Edge → Option Plan
@@ -54,7 +57,7 @@ followed_all points plan (e ∷ es) = elim (followed points plan e) [ Some next 
 
 -- the flips of the rounds, in order, stand in place of one list
 abbrev pub with_list : Plan → ℕ → List Flip → Plan
-with_list plan i flips = record { centre = plan.centre; lists = set plan.lists i flips }
+with_list plan i flips = record { centre = plan.centre; weights = plan.weights; lists = set plan.lists i flips }
 
 abbrev pub swapped : List Point → List (List Edge) → Plan → ℕ → List (List Edge) → Option Plan
 swapped points inputs plan i rounds = elim (flips_in_turn points (input_at inputs i) (in_turn rounds)) [ Some flips ↦ Some (with_list plan i flips) | None ↦ None ]

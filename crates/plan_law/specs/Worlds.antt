@@ -1,33 +1,33 @@
 -- Worlds: a book with replicas, the events that may come, in any order, and the replies.
-use Rattle.std.specs.Prelude.{◌≡◌, ◌≢◌, ℕ, ◌-◌, ◌<◌, ◌≤◌, true, Option, Some, None, List, [], ◌∷◌, ◌++◌, map, length, slice_get, set, take, All}
+use Rattle.std.specs.Prelude.{◌≡◌, ◌≢◌, ℕ, ◌-◌, ◌<◌, ◌≤◌, true, Option, Some, None, List, [], ◌∷◌, ◌++◌, map, length, sum, slice_get, set, take, All}
 use Rattle.geo_orient.specs.declared.Point.{Point}
 use Rattle.edge_table.specs.declared.edge.Edge.{Edge}
-use Rattle.assignment_law.specs.Assignments.{assignment_bound}
+use Rattle.bound_law.specs.Copies.{copy_lower}
 use Rattle.bound_law.specs.Bounds.{input_at}
 use Rattle.plan_law.specs.Images.{image_of}
 use Rattle.plan_law.specs.Plans.{Plan, plan_total, followed_all, swapped}
 use Rattle.plan_law.specs.Replays.{SwapFault, swap_fault}
-use Rattle.plan_law.specs.Books.{PairRow, row_of, lower_of, Entry, Move, Swap, Row, Pack, is_plan_entry, State, bound, identity, opening_state, state_after, AreRoundsOf, MayBeOffered, IsFit, Book, state_of, front, IsBook}
+use Rattle.plan_law.specs.Books.{PairRow, row_of, lower_of, Entry, Move, Swap, Row, Pack, is_plan_entry, State, bound_of, bound, identity, opening_state, state_after, AreRoundsOf, MayBeOffered, IsFit, Book, state_of, front, IsBook}
 
 -- ---- replicas
 
--- the lower bounds of all pairs of inputs, as a table
-abbrev pub weights : {E : Type 0} → ℕ → List (PairRow E) → List (List ℕ)
-weights count rows = map (λ i. map (λ j. lower_of rows i j) (identity count)) (identity count)
+-- the lower bounds of all pairs of copies, as a table
+abbrev pub lower_table : {E : Type 0} → List ℕ → List (PairRow E) → List (List ℕ)
+lower_table weights rows = map (λ c. map (λ d. copy_lower weights (lower_of rows) c d) (identity (sum weights))) (identity (sum weights))
 
 -- what a worker keeps of a book: a plan, the lower bounds, how many entries it has seen, and how many of them were plan entries
 pub record Replica : Type 0 where
   pub plan : Plan
-  pub weights : List (List ℕ)
+  pub table : List (List ℕ)
   pub seen : ℕ
   pub front : ℕ
 
-abbrev pub replica_from : {E : Type 0} → List (List Edge) → State E → List (Entry E) → Replica
-replica_from inputs state journal = record { plan = state.plan; weights = weights (length inputs) state.rows; seen = length journal; front = front journal }
+abbrev pub replica_from : {E : Type 0} → State E → List (Entry E) → Replica
+replica_from state journal = record { plan = state.plan; table = lower_table state.plan.weights state.rows; seen = length journal; front = front journal }
 
 -- the replica that has seen these entries of the book
 abbrev pub replica_after : {E : Type 0} → List Point → List (List Edge) → Plan → List (Entry E) → Replica
-replica_after points inputs opening journal = replica_from inputs (state_after points inputs (opening_state opening) journal) journal
+replica_after points inputs opening journal = replica_from (state_after points inputs (opening_state opening) journal) journal
 
 -- it is the state after a prefix of the journal
 abbrev pub IsReplicaOf : {E : Type 0} → List Point → List (List Edge) → Book E → Replica → Type 0
@@ -59,7 +59,7 @@ IsUnfit points inputs state (Move turn edges) (NotBetter held given) = IsNoBette
 IsUnfit points inputs state (Swap turn input rounds) (BadSwap fault) = swap_fault points (input_at inputs input) rounds state.plan.centre ≡ Some fault
 IsUnfit points inputs state (Swap turn input rounds) (NotBetter held given) = AreRoundsOf points (input_at inputs input) rounds state.plan.centre × IsNoBetter state.plan (swapped points inputs state.plan input rounds) held given
 IsUnfit points inputs state (Row turn row) (Taken low high) = (row_of state.rows row.low row.high ≢ None) × (low ≡ row.low) × (high ≡ row.high)
-IsUnfit points inputs state (Pack turn assignment) (NoRise held given) = (held ≡ bound state) × (given ≡ assignment_bound (lower_of state.rows) assignment) × (given ≤ held)
+IsUnfit points inputs state (Pack turn assignment) (NoRise held given) = (held ≡ bound state) × (given ≡ bound_of state assignment) × (given ≤ held)
 IsUnfit points inputs state _ _ = ⊥
 
 -- a plan entry was built at another front
@@ -119,10 +119,10 @@ Step justified points inputs old (Catch r) None new =
     (replica : Replica) × (n : ℕ) × (slice_get old.replicas r ≡ Some replica) × (replica.seen ≤ n) × (n ≤ length old.book.journal)
     × (new ≡ with_replica old r (replica_after points inputs old.book.opening (take n old.book.journal)))
 Step justified points inputs old (Offer r entry) (Some (Accepted place saved)) new =
-    (replica : Replica) × (slice_get old.replicas r ≡ Some replica) × MayBeOffered justified (length inputs) entry
+    (replica : Replica) × (slice_get old.replicas r ≡ Some replica) × MayBeOffered justified (length inputs) (sum old.book.opening.weights) entry
     × IsAccepted points inputs old.book replica.front entry place saved × (new ≡ record { book = with_entry old.book entry; replicas = old.replicas })
 Step justified points inputs old (Offer r entry) (Some (Refused refusal)) new =
-    (replica : Replica) × (slice_get old.replicas r ≡ Some replica) × MayBeOffered justified (length inputs) entry
+    (replica : Replica) × (slice_get old.replicas r ≡ Some replica) × MayBeOffered justified (length inputs) (sum old.book.opening.weights) entry
     × IsRefused points inputs old.book replica.front entry refusal × (new ≡ old)
 Step justified points inputs old (Offer r entry) None new = new ≡ old
 Step justified points inputs old _ _ new = ⊥

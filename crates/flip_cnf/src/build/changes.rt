@@ -1,6 +1,6 @@
 // The clauses that say that nothing changes but by flips.
 ghost use Rattle.std.specs.Prelude.{◌≡◌, ◌<◌, ◌≤◌, ◌++◌, length, OnOk, IfOk};
-ghost use Rattle.formula_law.specs.Formula.{change_clauses, leave_clause, come_clause, variable_count};
+ghost use Rattle.formula_law.specs.Formula.{change_clauses, leave_clause, come_clause, variable_count, there, made};
 ghost use Rattle.flip_cnf.specs.Building.{IsFrameOfSome, Takes, adding};
 ghost use Rattle.flip_cnf.specs.Lists.{edge_at};
 
@@ -16,7 +16,7 @@ fn leave(alloc: Global, lists: &Lists, k: u32, t: u32, e: u32) -> Result<Clause,
     requires rounds { k ≤ 400_000 }
     requires round { t < k }
     requires within { e < length lists.now.segments }
-    ensures { IfOk result (λ clause. clause ≡ leave_clause lists.now k t (edge_at lists.now.segments e)) }
+    ensures { IfOk result (λ clause. clause ≡ leave_clause lists.now (there lists.now) (made lists.now k) t (edge_at lists.now.segments e)) }
 {
     let mut clause = Clause::make(alloc);
     clause.push(there(lists, t, e, false))?;
@@ -36,7 +36,7 @@ fn come(alloc: Global, lists: &Lists, k: u32, t: u32, e: u32) -> Result<Clause, 
     requires rounds { k ≤ 400_000 }
     requires round { t < k }
     requires within { e < length lists.now.segments }
-    ensures { IfOk result (λ clause. clause ≡ come_clause lists.now k t (edge_at lists.now.segments e)) }
+    ensures { IfOk result (λ clause. clause ≡ come_clause lists.now (there lists.now) (made lists.now k) t (edge_at lists.now.segments e)) }
 {
     let mut clause = Clause::make(alloc);
     clause.push(there(lists, t, e, true))?;
@@ -61,8 +61,8 @@ pub(crate) fn add_changes(
     requires few { variable_count lists.now k ≤ 400_000 }
     requires rounds { k ≤ 400_000 }
     requires round { t < k }
-    requires takes { Takes cnf.old (change_clauses lists.now k t) }
-    ensures { OnOk result (cnf.new ≡ adding cnf.old (change_clauses lists.now k t)) }
+    requires takes { Takes cnf.old (change_clauses lists.now (there lists.now) (made lists.now k) t) }
+    ensures { OnOk result (cnf.new ≡ adding cnf.old (change_clauses lists.now (there lists.now) (made lists.now k) t)) }
 {
     for e in 0..lists.segments() {
         let left = leave(alloc, lists, k, t, e)?;

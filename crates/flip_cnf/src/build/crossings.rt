@@ -1,6 +1,6 @@
 // The clauses that say that no two segments that cross are there.
 ghost use Rattle.std.specs.Prelude.{◌≡◌, ◌≤◌, OnOk};
-ghost use Rattle.formula_law.specs.Formula.{crossing_clauses};
+ghost use Rattle.formula_law.specs.Formula.{crossing_clauses, there};
 ghost use Rattle.flip_cnf.specs.Building.{IsFrameOfSome, Takes, adding};
 
 use crate::build::clauses::pair;
@@ -18,8 +18,8 @@ pub(crate) fn add_crossings(
 ) -> Result<(), AllocError>
     requires frame { IsFrameOfSome lists.now }
     requires rounds { t ≤ 400_000 }
-    requires takes { Takes cnf.old (crossing_clauses lists.now t) }
-    ensures { OnOk result (cnf.new ≡ adding cnf.old (crossing_clauses lists.now t)) }
+    requires takes { Takes cnf.old (crossing_clauses lists.now (there lists.now) t) }
+    ensures { OnOk result (cnf.new ≡ adding cnf.old (crossing_clauses lists.now (there lists.now) t)) }
 {
     for n in 0..lists.crossings() {
         let g = lists.crossing(n);

@@ -1,6 +1,6 @@
 // The clauses that say what a flip asks.
 ghost use Rattle.std.specs.Prelude.{◌≡◌, ◌<◌, ◌≤◌, length, map, IfOk, OnOk};
-ghost use Rattle.formula_law.specs.Formula.{demands, flip_clauses, variable_count};
+ghost use Rattle.formula_law.specs.Formula.{demands, flip_clauses, variable_count, there, made};
 ghost use Rattle.flip_cnf.specs.Building.{IsFrameOfSome, Takes, adding, pair_at, asked, asks};
 
 use crate::build::clauses::pair;
@@ -15,7 +15,7 @@ fn demands(alloc: Global, lists: &Lists, t: u32, n: u32) -> Result<Clause, Alloc
     requires frame { IsFrameOfSome lists.now }
     requires rounds { t < 400_000 }
     requires within { n < length lists.now.flips }
-    ensures { IfOk result (λ lits. lits ≡ demands lists.now t (pair_at lists.now.flips n)) }
+    ensures { IfOk result (λ lits. lits ≡ demands lists.now (there lists.now) t (pair_at lists.now.flips n)) }
 {
     let g = lists.flip(n);
     let mut lits = Clause::make(alloc);
@@ -74,8 +74,8 @@ pub(crate) fn add_flips(
     requires few { variable_count lists.now k ≤ 400_000 }
     requires rounds { k ≤ 400_000 }
     requires round { t < k }
-    requires takes { Takes cnf.old (flip_clauses lists.now k t) }
-    ensures { OnOk result (cnf.new ≡ adding cnf.old (flip_clauses lists.now k t)) }
+    requires takes { Takes cnf.old (flip_clauses lists.now (there lists.now) (made lists.now k) t) }
+    ensures { OnOk result (cnf.new ≡ adding cnf.old (flip_clauses lists.now (there lists.now) (made lists.now k) t)) }
 {
     for n in 0..lists.flips() {
         add_flip(alloc, cnf, lists, k, t, n)?;

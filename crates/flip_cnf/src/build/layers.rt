@@ -1,6 +1,6 @@
 // The clauses that say which segments are there after some rounds.
 ghost use Rattle.std.specs.Prelude.{◌≡◌, ◌≤◌, OnOk};
-ghost use Rattle.formula_law.specs.Formula.{layer_clauses};
+ghost use Rattle.formula_law.specs.Formula.{layer_clauses, there};
 ghost use Rattle.flip_cnf.specs.Building.{IsFrameOfSome, Takes, adding};
 
 use crate::build::clauses::unit;
@@ -20,8 +20,8 @@ pub(crate) fn add_layer(
 ) -> Result<(), AllocError>
     requires frame { IsFrameOfSome lists.now }
     requires rounds { t ≤ 400_000 }
-    requires takes { Takes cnf.old (layer_clauses lists.now t edges.now.edges) }
-    ensures { OnOk result (cnf.new ≡ adding cnf.old (layer_clauses lists.now t edges.now.edges)) }
+    requires takes { Takes cnf.old (layer_clauses lists.now (there lists.now) t edges.now.edges) }
+    ensures { OnOk result (cnf.new ≡ adding cnf.old (layer_clauses lists.now (there lists.now) t edges.now.edges)) }
 {
     for n in 0..lists.segments() {
         let on = edges.has(lists.segment(n));

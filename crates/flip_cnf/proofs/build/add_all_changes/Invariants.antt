@@ -1,7 +1,7 @@
 use Rattle.std.specs.List.{range_with_len}
-use Rattle.formula_law.specs.Formula.{change_clauses}
+use Rattle.formula_law.specs.Formula.{change_clauses, there, made}
 use Rattle.flip_cnf.proofs.Appending.{Upto}
 use Rattle.flip_cnf.proofs.build.add_all_changes.Given as goal
 
 abbrev pub invariant-loop-t : goal.invariant-loop-t
-invariant-loop-t l = Upto (change_clauses l.lists l.k) (range_with_len 0 l.k) l.initial.cnf l.t l.cnf
+invariant-loop-t l = Upto (change_clauses l.lists (there l.lists) (made l.lists l.k)) (range_with_len 0 l.k) l.initial.cnf l.t l.cnf

@@ -1,7 +1,7 @@
 use Rattle.std.proofs.Common.{◌≡◌, ◌∙◌, ◌∷◌, Contains, sym, ap, subst}
 use Rattle.std.specs.List.{flat_map}
 use Rattle.std.proofs.lemmas.List.Elements.{Contains-get_or}
-use Rattle.formula_law.specs.Formula.{sides, demands}
+use Rattle.formula_law.specs.Formula.{sides, demands, there}
 use Rattle.flip_cnf.specs.Lists.{edge_at, linked, pair_of}
 use Rattle.flip_cnf.specs.Building.{no_pair, stays}
 use Rattle.flip_cnf.proofs.Asked.{five}
@@ -22,4 +22,4 @@ returns c =
     five c.make-lits.result c.push.new.self c.push-2.new.self c.push-3.new.self c.push-4.new.self c.push_sides.new.lits rest c.there.result c.there-2.result c.there-3.result c.there-4.result
     c.make-lits.ensures c.in_ok-push.ensures.ok c.in_ok-push-2.ensures.ok c.in_ok-push-3.ensures.ok c.in_ok-push-4.ensures.ok c.in_ok-push_sides.ensures
     ∙ (λ i. c.there.ensures i ∷ c.there-2.ensures i ∷ c.there-3.ensures i ∷ c.there-4.ensures i ∷ flat_map (stays F t) (sides F (pair_of (c.segment.ensures i) (c.segment-2.ensures i))))
-    ∙ ap (demands F t) (sym c.flip-g.ensures.pair)
+    ∙ ap (demands F (there F) t) (sym c.flip-g.ensures.pair)

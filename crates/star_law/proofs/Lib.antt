@@ -1,0 +1,15 @@
+pub mod Proved
+pub mod Renamed
+pub mod Rests
+pub mod RowTruth
+pub mod Splits
+pub mod StarBounds
+pub mod StarCounts
+pub mod StarDirect
+pub mod StarExamples
+pub mod StarFits
+pub mod StarMeets
+pub mod StarModels
+pub mod StarNumbers
+pub mod StarSays
+pub mod StarVariables
