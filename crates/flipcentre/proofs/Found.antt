@@ -9,14 +9,14 @@ use Rattle.edge_table.specs.Edges.{IsAscending, IsBefore}
 use Rattle.edge_table.proofs.Ascending.{not_before_itself}
 use Rattle.tri_theory.specs.Points.{ArePlaced}
 use Rattle.tri_theory.specs.Triangulations.{IsTriangulation}
-use Rattle.tri_theory.specs.Rounds.{IsPlan, total}
+use Rattle.tri_theory.specs.Rounds.{IsPlan}
 use Rattle.tri_check.specs.Problems.{Problem, IsProblem}
 use Rattle.flip_list_law.specs.declared.Flip.{Flip}
 use Rattle.flip_list_law.specs.FlipLists.{IsFlipList, grouped}
 use Rattle.flip_list_law.specs.Laws.{Replays}
 use Rattle.flip_list_law.proofs.Proved.{grouping_replays}
 use Rattle.replay.specs.Independent.{HasNoRepeats}
-use Rattle.replay.specs.Scores.{AreAllDistinct}
+use Rattle.replay.specs.Scores.{AreAllDistinct, total}
 use Rattle.plan_law.specs.Plans.{Plan, schedules}
 use Rattle.plan_core.specs.HeldPlans.{HasSchedules}
 use Rattle.plan_solve.specs.declared.order.Order.{Order}
@@ -67,7 +67,7 @@ plan_solved i plan s o problem found has uid lists = record {
   uid = uid;
   centre = plan.centre;
   plan = subst (IsPlan i.points i.inputs plan.centre) (sym lists) has.is_plan;
-  distinct = subst AreAllDistinct (sym lists) (distinct_of i.points problem.placed plan.centre i.inputs plan.lists problem.triangulated found.is_plan);
+  distinct = subst AreAllDistinct (sym lists) (distinct_of i.points problem.placed plan.centre i.inputs plan.lists problem.triangulated found.is_plan.lead);
 }
 
 found_of : (i : Problem) (plan : Plan) (s : Solution) (o : Order) → IsProblem i.points i.inputs → IsFoundPlan i o plan → HasSchedules i plan → s.uid ≡ i.uid → s.lists ≡ schedules plan → Spells (text_of s) s → IsFound i o s

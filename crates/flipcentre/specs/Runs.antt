@@ -11,7 +11,7 @@ use Rattle.tri_check.specs.Faults.{IsFirstFault, IsValid}
 use Rattle.tri_check.specs.Accepted.{IsAccepted}
 use Rattle.tri_check.specs.Problems.{Problem, IsProblem}
 use Rattle.edge_table.specs.declared.edge.Edge.{Edge}
-use Rattle.tri_theory.specs.Rounds.{IsPlan, total}
+use Rattle.tri_theory.specs.Rounds.{IsPlan}
 use Rattle.solution_json.specs.declared.fault.SolForm.{SolForm}
 use Rattle.solution_json.specs.declared.solution.Solution.{Solution}
 use Rattle.solution_json.specs.Faults.{IsFirstSolFault}
@@ -20,7 +20,7 @@ use Rattle.solution_json.specs.Faults as solution_fault
 use Rattle.solution_json.specs.Forms as solution_form
 use Rattle.replay.specs.declared.fault.ScoreFault.{ScoreFault}
 use Rattle.replay.specs.declared.fault.ScoreFault.TheVariants.{OutOfMemory}
-use Rattle.replay.specs.Scores.{IsScoreFault, AreAllDistinct}
+use Rattle.replay.specs.Scores.{IsScoreFault, AreAllDistinct, total}
 use Rattle.flipcentre.specs.declared.status.Status.{Status}
 use Rattle.flipcentre.specs.declared.status.Status.TheVariants.{Done, Words, Refused, FlipBudget, Memory, ReadFault}
 use Rattle.centre_words.specs.declared.asked.Asked.{Asked}

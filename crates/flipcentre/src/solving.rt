@@ -1,7 +1,7 @@
 // The command `solve`.
 ghost use Rattle.std.specs.Prelude.{◌≡◌, ◌⊎◌, ◌+◌, ◌≤◌, Some, None, Ok, IfOk, OnOk, IsErrOf, string_bytes};
 ghost use Rattle.host_io.specs.Store.{Rose};
-ghost use Rattle.tri_theory.specs.Rounds.{total};
+ghost use Rattle.replay.specs.Scores.{total};
 ghost use Rattle.solution_json.specs.Texts.{text_of};
 ghost use Rattle.solution_json.specs.Forms.{Spells};
 ghost use Rattle.tri_check.specs.Problems.{IsProblem};

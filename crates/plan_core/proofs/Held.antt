@@ -1,11 +1,13 @@
 -- What is known of a held plan: its lists, and where edges flip.
 use Rattle.std.proofs.Common.{◌≡◌, ◌∙◌, ℕ, zero, suc, ◌+◌, ◌<◌, ◌≤◌, Option, Some, None, List, [], ◌∷◌, ◌++◌, length, get_or, map, All, slice_get, refl, sym, ap, ap₂, subst, arith}
-use Rattle.std.specs.Prelude.{sum}
+use Rattle.std.specs.Prelude.{replicate, sum}
+use Rattle.std.proofs.lemmas.List.{length-map, length-replicate}
+use Rattle.std.proofs.lemmas.List.Sums.{sum_by-cons}
 use Rattle.std.specs.List.{AllZip}
 use Rattle.std.specs.Option.{is_some}
 use Rattle.std.proofs.lemmas.Option.{get_or_from_slice_get, slice_get_within}
 use Rattle.std.proofs.lemmas.Slice.Zip.{AllZip-long}
-use Rattle.std.proofs.lemmas.List.Elements.{All-nil, All-cons, Contains-get_or}
+use Rattle.std.proofs.lemmas.List.Elements.{All-nil, All-cons, All-replicate, Contains-get_or}
 use Rattle.std.proofs.lemmas.List.Kept.{AllPairs-filter}
 use Rattle.geo_orient.specs.declared.Point.{Point}
 use Rattle.edge_table.specs.declared.edge.Edge.{Edge}
@@ -24,9 +26,10 @@ use Rattle.flip_mesh.specs.Build.{AreFlippable}
 use Rattle.round_pack.specs.Tracks.{FlipTrack, flip}
 use Rattle.bound_law.specs.Bounds.{input_at}
 use Rattle.plan_law.specs.Images.{image_of, flippable, after_flip}
-use Rattle.plan_law.specs.Plans.{IsInstance, Plan, IsPlanOf, with_flip, followed, followed_all, last_moves, moves}
+use Rattle.tri_theory.specs.Rounds.{AreWeights, weighted_sum}
+use Rattle.plan_law.specs.Plans.{IsInstance, Plan, IsPlanOf, plan_total, with_flip, followed, followed_all, last_moves, moves}
 use Rattle.plan_law.proofs.Proved.{images_are_found, flips_lead_on, flippable_edges, plans_have_schedules, centres_are_triangulations, following_keeps_plans}
-use Rattle.plan_core.specs.HeldPlans.{LeadsTo, HasSchedules, TotalsAfter, lists_of, list_at}
+use Rattle.plan_core.specs.HeldPlans.{LeadsTo, HasSchedules, TotalsAfter, weights_of, lists_of, list_at}
 use Rattle.plan_core.specs.States.{plan_of, IsHeld}
 use Rattle.plan_core.specs.Steps.{IsLed, IsFollowed, IsRoomier}
 
@@ -111,10 +114,20 @@ last_moves_push [] flips = refl
 last_moves_push ([] ∷ lists) flips = last_moves_push lists flips
 last_moves_push ((g ∷ gs) ∷ lists) flips = ap (λ ms. last_moves ((g ∷ gs) ∷ []) ++ ms) (last_moves_push lists flips)
 
+-- ---- weights of 1
+pub unit_weights : (inputs : List (List Edge)) → AreWeights inputs (replicate (length inputs) 1)
+unit_weights inputs = record { one_each = length-replicate (length inputs) 1; positive = All-replicate (λ w. 1 ≤ w) (length inputs) 1 (omega arith) }
+
+unit_sum : (n : ℕ) (ns : List ℕ) → n ≡ length ns → weighted_sum (replicate n 1) ns ≡ sum ns
+unit_sum zero [] e = refl
+unit_sum zero (m ∷ ns) e = absurd (omega arith)
+unit_sum (suc n) [] e = absurd (omega arith)
+unit_sum (suc n) (m ∷ ns) e = let again = unit_sum n ns (omega arith) in omega (arith, again, sum_by-cons (λ k. k) m ns)
+
 -- ---- a held plan
 module _ (problem : Problem) (centre : Layout) (tracks : List FlipTrack) (H : IsHeld problem centre tracks) where
   abbrev plan : Plan
-  plan = plan_of centre.edges tracks
+  plan = plan_of problem centre.edges tracks
 
   pub instance : IsInstance problem.points problem.inputs
   instance = record {
@@ -130,21 +143,29 @@ module _ (problem : Problem) (centre : Layout) (tracks : List FlipTrack) (H : Is
   as_many = AllZip-long (LeadsTo problem.points centre.edges) problem.inputs tracks H.lead
 
   pub has_schedules : HasSchedules problem plan
-  has_schedules = let p = plans_have_schedules problem.points problem.inputs plan instance H.is_plan in record { is_plan = p.0; as_many = p.1 }
+  has_schedules = let p = plans_have_schedules problem.points problem.inputs plan instance H.is_plan in record { is_plan = p.0; weights = refl; as_many = p.1 }
 
   pub schedule_at : (t : ℕ) → t < length problem.inputs → Replays problem.points (input_at problem.inputs t) (list_at plan t) centre.edges
   schedule_at t h =
-      grouping_replays problem.points (input_at problem.inputs t) centre.edges (list_at plan t) instance.placed (H.is_problem.triangulated (input_at problem.inputs t) (Contains-get_or problem.inputs t [] h)) (list_led problem.points centre.edges problem.inputs (lists_of tracks) t H.is_plan h)
+      grouping_replays problem.points (input_at problem.inputs t) centre.edges (list_at plan t) instance.placed (H.is_problem.triangulated (input_at problem.inputs t) (Contains-get_or problem.inputs t [] h)) (list_led problem.points centre.edges problem.inputs (lists_of tracks) t H.is_plan.lead h)
 
   pub is_followed : (e f : Edge) → FlipsTo problem.points centre.edges e f → followed problem.points plan e ≡ Some (with_flip plan (flip e f))
   is_followed e f h =
       ap (λ r. elim r as (λ _. Option Plan) [ Some g ↦ Some (with_flip plan (flip e g)) | None ↦ None ]) ((images_are_found problem.points centre.edges e f instance.placed triangulated).1 h)
 
+  -- the total
+  pub total_is : (n : ℕ) → n ≡ sum (map round_count (lists_of tracks)) → n ≡ plan_total plan
+  total_is n e = e ∙ sym (unit_sum (length problem.inputs) (map round_count (lists_of tracks)) (sym (length-map (lists_of tracks) round_count ∙ (length-map tracks (λ (t : FlipTrack). t.flips) ∙ as_many))))
+
   -- the total once an edge is followed
   pub totals_after : (e : Edge) (n : ℕ) → Flips problem.points centre.edges e
       → ((f : Edge) → All (λ (track : FlipTrack). FlipsTo track.points track.end e f) tracks → n ≡ sum (map round_count (map (λ flips. follow flips (flip e f)) (lists_of tracks))))
       → TotalsAfter problem.points plan e n
-  totals_after e n (f, h) sums = (with_flip plan (flip e f), is_followed e f h, sums f (all_flip_to problem.points centre.edges e f h problem.inputs tracks H.lead))
+  totals_after e n (f, h) sums =
+      (with_flip plan (flip e f), is_followed e f h, sums f (all_flip_to problem.points centre.edges e f h problem.inputs tracks H.lead) ∙ sym (unit_sum (length problem.inputs) (map round_count (map (λ flips. follow flips (flip e f)) (lists_of tracks))) long))
+    where
+      long : length problem.inputs ≡ length (map round_count (map (λ flips. follow flips (flip e f)) (lists_of tracks)))
+      long = sym (length-map (map (λ flips. follow flips (flip e f)) (lists_of tracks)) round_count ∙ (length-map (lists_of tracks) (λ flips. follow flips (flip e f)) ∙ (length-map tracks (λ (t : FlipTrack). t.flips) ∙ as_many)))
 
   -- the edges that flip, as they are listed
   pub moves_are : (list : List Edge) (made : List (List Edge)) → AreFlippable problem.points centre.edges list → made ≡ map (λ e. e ∷ []) list ++ last_moves (lists_of tracks) → made ≡ moves problem.points plan
@@ -188,11 +209,11 @@ module _ (problem : Problem) (centre : Layout) (tracks : List FlipTrack) (H : Is
     lists (x ∷ inputs) (a ∷ as_were) [] z w = absurd w
     lists (x ∷ inputs) (a ∷ as_were) (b ∷ are) z w = ap₂ ◌∷◌ (w.0.flips ∙ ap (λ g. follow a.flips (flip e g)) (track_is x a b z.0 w.0).0) (lists inputs as_were are z.1 w.1)
 
-    plan_is : plan_of next.edges new ≡ with_flip plan (flip e f)
+    plan_is : plan_of problem next.edges new ≡ with_flip plan (flip e f)
     plan_is =
-        ap₂ (λ c ls. record { centre = c; lists = ls }) (((flips_lead_on problem.points centre.edges next.edges (flip e f) instance.placed triangulated).0 here).1) (lists problem.inputs tracks new H.lead Z)
+        ap₂ (λ c ls. record { centre = c; weights = weights_of problem; lists = ls }) (((flips_lead_on problem.points centre.edges next.edges (flip e f) instance.placed triangulated).0 here).1) (lists problem.inputs tracks new H.lead Z)
 
-    pub follows : followed problem.points plan e ≡ Some (plan_of next.edges new)
+    pub follows : followed problem.points plan e ≡ Some (plan_of problem next.edges new)
     follows = is_followed e f here.flips ∙ ap Some (sym plan_is)
 
     pub image_is : FlipsTo problem.points centre.edges e f
@@ -203,7 +224,7 @@ module _ (problem : Problem) (centre : Layout) (tracks : List FlipTrack) (H : Is
       is_problem = H.is_problem;
       of_points = P ∙ H.of_points;
       lead = lead problem.inputs tracks new H.lead Z;
-      is_plan = (following_keeps_plans problem.points problem.inputs plan (plan_of next.edges new) (e ∷ []) instance H.is_plan
+      is_plan = (following_keeps_plans problem.points problem.inputs plan (plan_of problem next.edges new) (e ∷ []) instance H.is_plan
           (ap (λ r. elim r as (λ _. Option Plan) [ Some p ↦ followed_all problem.points p [] | None ↦ None ]) follows)).0;
     }
 
@@ -212,7 +233,7 @@ module _ (problem : Problem) (centre : Layout) (tracks : List FlipTrack) (H : Is
     is_problem = H.is_problem;
     of_points = H.of_points;
     lead = roomier_lead problem.points centre.edges problem.inputs tracks new H.lead Z;
-    is_plan = subst (λ ls. IsPlanOf problem.points problem.inputs (record { centre = centre.edges; lists = ls })) (sym (roomier_lists tracks new Z)) H.is_plan;
+    is_plan = subst (λ ls. IsPlanOf problem.points problem.inputs (record { centre = centre.edges; weights = weights_of problem; lists = ls })) (sym (roomier_lists tracks new Z)) H.is_plan;
   }
 
 -- tracks that lead from the inputs to a centre are a plan
@@ -222,7 +243,7 @@ opening_held problem centre tracks I P Z L = record {
   is_problem = I;
   of_points = P;
   lead = Z;
-  is_plan = lists_lead problem.points centre.edges problem.inputs tracks Z (λ k track h. subst IsLed (get_or_from_slice_get tracks k track track h) (L k track (slice_get_within tracks k track h)));
+  is_plan = record { weighed = unit_weights problem.inputs; lead = lists_lead problem.points centre.edges problem.inputs tracks Z (λ k track h. subst IsLed (get_or_from_slice_get tracks k track track h) (L k track (slice_get_within tracks k track h))) };
 }
 
 -- one track that leads from the only input

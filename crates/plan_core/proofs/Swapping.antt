@@ -24,7 +24,7 @@ use Rattle.plan_law.specs.PlanLaws.{Swaps}
 use Rattle.plan_law.proofs.Proved.{flips_lead_on, flips_are_found, swaps_keep_plans}
 use Rattle.plan_core.specs.declared.fault.SwapFault.{SwapFault}
 use Rattle.plan_core.specs.declared.fault.SwapFault.TheVariants.{Round, OtherEnd, NotFewer, OutOfMemory}
-use Rattle.plan_core.specs.HeldPlans.{LeadsTo, lists_of, list_at}
+use Rattle.plan_core.specs.HeldPlans.{LeadsTo, lists_of, list_at, weights_of}
 use Rattle.plan_core.specs.States.{plan_of, IsHeld}
 use Rattle.plan_core.specs.Steps.{IsTrackOf, IsTrackFor}
 use Rattle.plan_core.specs.SwapFaults.{IsSwapFault, IsLeadFault, IsSwapped, IsNotFewer, Saves}
@@ -59,7 +59,7 @@ pub record FoundFlips (points : List Point) (from es to : List Edge) : Type 0 wh
 
 module _ (problem : Problem) (centre : Layout) (tracks : List FlipTrack) (H : IsHeld problem centre tracks) (t : ℕ) (rounds : List (List Edge)) (h : t < length problem.inputs) (R : AreRoundsOf problem.points (input_at problem.inputs t) rounds centre.edges) where
   abbrev plan : Plan
-  plan = plan_of centre.edges tracks
+  plan = plan_of problem centre.edges tracks
 
   abbrev input : List Edge
   input = input_at problem.inputs t
@@ -99,8 +99,8 @@ module _ (problem : Problem) (centre : Layout) (tracks : List FlipTrack) (H : Is
     lists_set (x ∷ ts) zero = refl
     lists_set (x ∷ ts) (suc k) = ap (λ ls. x.flips ∷ ls) (lists_set ts k)
 
-    pub plan_set : plan_of centre.edges (set tracks t track) ≡ with_list plan t track.flips
-    plan_set = ap (λ ls. record { centre = centre.edges; lists = ls }) (lists_set tracks t)
+    pub plan_set : plan_of problem centre.edges (set tracks t track) ≡ with_list plan t track.flips
+    plan_set = ap (λ ls. record { centre = centre.edges; weights = weights_of problem; lists = ls }) (lists_set tracks t)
 
     same_next : swaps.next ≡ with_list plan t track.flips
     same_next = (let e = sym swaps.is_swapped ∙ T.swapped in cc)
@@ -124,13 +124,13 @@ module _ (problem : Problem) (centre : Layout) (tracks : List FlipTrack) (H : Is
     is_swapped = record { leads = R; swapped = T.swapped }
 
     pub list_set : list_at (with_list plan t track.flips) t ≡ track.flips
-    list_set = get_or-set_same (lists_of tracks) t track.flips [] (omega (arith, h, AllZip-long (λ in_list flips. IsFlipList problem.points in_list flips centre.edges) problem.inputs (lists_of tracks) H.is_plan))
+    list_set = get_or-set_same (lists_of tracks) t track.flips [] (omega (arith, h, AllZip-long (λ in_list flips. IsFlipList problem.points in_list flips centre.edges) problem.inputs (lists_of tracks) H.is_plan.lead))
 
     pub not_fewer : (held given : ℕ) → held ≡ round_count (list_at plan t) → given ≡ round_count track.flips → held ≤ given → IsNotFewer problem plan t rounds held given
     not_fewer held given a b l = record { next = with_list plan t track.flips; is_swapped = is_swapped; held_is = a; given_is = b ∙ ap round_count (sym list_set); not_fewer = l }
 
     pub saves : (was is held given : ℕ) → held ≡ round_count (list_at plan t) → given ≡ round_count track.flips → given < held
-        → Saves (record { problem = problem; plan = plan; spare = was }) (record { problem = problem; plan = plan_of centre.edges (set tracks t track); spare = is }) t rounds (held - given)
+        → Saves (record { problem = problem; plan = plan; spare = was }) (record { problem = problem; plan = plan_of problem centre.edges (set tracks t track); spare = is }) t rounds (held - given)
     saves was is held given a b l = record {
       problem = refl;
       is_swapped = subst (λ p. IsSwapped problem plan t rounds p) (sym plan_set) is_swapped;

@@ -6,14 +6,14 @@ use Rattle.tri_check.specs.Layouts.{Layout}
 use Rattle.tri_check.specs.Problems.{Problem, IsProblem}
 use Rattle.round_pack.specs.Tracks.{FlipTrack}
 use Rattle.plan_law.specs.Plans.{Plan, IsPlanOf}
-use Rattle.plan_core.specs.HeldPlans.{LeadsTo, lists_of}
+use Rattle.plan_core.specs.HeldPlans.{LeadsTo, weights_of, lists_of}
 
-abbrev pub plan_of : List Edge → List FlipTrack → Plan
-plan_of centre tracks = record { centre = centre; lists = lists_of tracks }
+abbrev pub plan_of : Problem → List Edge → List FlipTrack → Plan
+plan_of problem centre tracks = record { centre = centre; weights = weights_of problem; lists = lists_of tracks }
 
 -- the tracks lead from the inputs of the instance to the centre, and their flips are a plan of it
 pub record IsHeld (problem : Problem) (centre : Layout) (tracks : List FlipTrack) : Type 0 where
   pub is_problem : IsProblem problem.points problem.inputs
   pub of_points : centre.points ≡ problem.points
   pub lead : AllZip (LeadsTo problem.points centre.edges) problem.inputs tracks
-  pub is_plan : IsPlanOf problem.points problem.inputs (plan_of centre.edges tracks)
+  pub is_plan : IsPlanOf problem.points problem.inputs (plan_of problem centre.edges tracks)

@@ -41,7 +41,7 @@ impl Model for Plan {
 
     ghost use Rattle.plan_core.specs.States.{plan_of, IsHeld};
 
-    ghost view = { λ p. record { problem = p.inst.value; plan = plan_of p.centre.edges p.tracks; spare = least_spare p.tracks } };
+    ghost view = { λ p. record { problem = p.inst.value; plan = plan_of p.inst.value p.centre.edges p.tracks; spare = least_spare p.tracks } };
 
     ghost invariant = { λ p. IsHeld p.inst.value p.centre p.tracks };
 }

@@ -1,5 +1,5 @@
 -- The instance and the order decide which plan is found.
-use Rattle.std.proofs.Common.{◌≡◌, ◌∙◌, sym, ap₂, refl, subst, ℕ, suc, ◌≤◌, List, [], ◌∷◌, map, length, Some, arith}
+use Rattle.std.proofs.Common.{◌≡◌, ◌∙◌, sym, ap, ap₂, refl, subst, ℕ, suc, ◌≤◌, List, [], ◌∷◌, map, length, Some, arith}
 use Rattle.std.specs.Prelude.{Contains}
 use Rattle.std.specs.List.{AllZip}
 use Rattle.geo_orient.specs.declared.Point.{Point}
@@ -61,15 +61,16 @@ same_centre points centre other (input ∷ inputs) (flips ∷ lists) (flips' ∷
     let I = T input (0, omega arith, refl) in
     runs_end_in_one points input flips centre input flips' other P I I run.0 ran.0
 
-same_plan : (plan other : Plan) → plan.centre ≡ other.centre → plan.lists ≡ other.lists → plan ≡ other
-same_plan plan other centre lists = ap₂ (λ c ls. record { centre = c; lists = ls }) centre lists
+same_plan : (plan other : Plan) → plan.centre ≡ other.centre → plan.weights ≡ other.weights → plan.lists ≡ other.lists → plan ≡ other
+same_plan plan other centre weights lists =
+    ap₂ (λ c ls. record { centre = c; weights = plan.weights; lists = ls }) centre lists ∙ ap (λ ws. record { centre = other.centre; weights = ws; lists = other.lists }) weights
 
 same_opening : (problem : Problem) (budget : ℕ) (plan other : Plan) → IsProblem problem.points problem.inputs → IsOpeningPlan problem budget plan → IsOpeningPlan problem budget other → plan ≡ other
 same_opening problem budget plan other p opens opened =
     let centre = same_centre problem.points plan.centre other.centre problem.inputs (map flipped_edges plan.lists) (map flipped_edges other.lists) p.placed p.triangulated p.some_input opens.runs opened.runs in
-    same_plan plan other centre
-    (same_lists problem.points p.placed plan.centre problem.inputs plan.lists other.lists p.triangulated opens.is_plan
-    (subst (λ c. AllZip (λ input flips. IsFlipList problem.points input flips c) problem.inputs other.lists) (sym centre) opened.is_plan)
+    same_plan plan other centre (opens.weights ∙ sym opened.weights)
+    (same_lists problem.points p.placed plan.centre problem.inputs plan.lists other.lists p.triangulated opens.is_plan.lead
+    (subst (λ c. AllZip (λ input flips. IsFlipList problem.points input flips c) problem.inputs other.lists) (sym centre) opened.is_plan.lead)
     opens.runs
     (subst (λ c. AllZip (λ input flips. IsLawsonRun problem.points input flips c) problem.inputs (map flipped_edges other.lists)) (sym centre) opened.runs))
 

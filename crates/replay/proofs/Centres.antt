@@ -4,11 +4,11 @@ use native.Mathlib.Decide.{dec_lt}
 use Rattle.std.proofs.lemmas.List.Sums.{sum-map, sum_by_push}
 use Rattle.geo_orient.specs.declared.Point.{Point}
 use Rattle.edge_table.specs.declared.edge.Edge.{Edge}
-use Rattle.tri_theory.specs.Rounds.{IsPlan, total}
+use Rattle.tri_theory.specs.Rounds.{IsPlan}
 use Rattle.replay.specs.Independent.{AreRoundsOf}
 use Rattle.replay.specs.declared.fault.ScoreFault.{ScoreFault}
 use Rattle.replay.specs.declared.fault.ScoreFault.TheVariants.{InputCount, Round, NoCommonCentre, OutOfMemory}
-use Rattle.replay.specs.Scores.{LeadsTo, AllLead, HasFirstFault, EndsApart, IsScoreFault, AreAllDistinct}
+use Rattle.replay.specs.Scores.{LeadsTo, AllLead, HasFirstFault, EndsApart, IsScoreFault, AreAllDistinct, total}
 use Rattle.replay.specs.Ends.{IsCentre, IsEndFault, IsApart, IsNextApart}
 
 pub total_push : (lists : List (List (List Edge))) (rounds : List (List Edge)) → total (lists ++ rounds ∷ []) ≡ total lists + length rounds

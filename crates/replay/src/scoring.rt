@@ -1,7 +1,7 @@
 // The score of the rounds of all inputs of an instance.
 ghost use Rattle.std.specs.Prelude.{◌≡◌, ◌<◌, length, IfOk, IfErr};
-ghost use Rattle.tri_theory.specs.Rounds.{IsPlan, total};
-ghost use Rattle.replay.specs.Scores.{LeadsTo, AllLead, AreAllDistinct, IsScoreFault};
+ghost use Rattle.tri_theory.specs.Rounds.{IsPlan};
+ghost use Rattle.replay.specs.Scores.{LeadsTo, AllLead, AreAllDistinct, IsScoreFault, total};
 ghost use Rattle.replay.specs.Ends.{IsEndFault, IsCentre, IsApart, IsNextApart};
 
 use crate::{ReplayFault, ScoreFault, replay};

@@ -8,7 +8,7 @@ use Rattle.flipcentre.proofs.solving.lists_of.Goals as goal
 pub loop-t-preserved : goal.loop-t-preserved
 loop-t-preserved c =
     let held = c.args.plan.now in
-    let long = AllZip-long _ held.problem.inputs held.plan.lists c.total.ensures.plan in
+    let long = AllZip-long _ held.problem.inputs held.plan.lists c.total.ensures.plan.lead in
     let count = c.inputs-count.ensures ∙ ap (λ (p : Problem). length p.inputs) (c.deref.ensures ∙ c.inst.ensures) in
     let lt : c.loop-t.t < length held.plan.lists = omega (arith, c.loop-t-test.true, count, long) in
     c.in_ok-push.ensures.ok ∙ (ap (λ lists. lists ++ c.in_ok-schedule.field-0 ∷ []) c.loop-t.invariant
@@ -17,7 +17,7 @@ loop-t-preserved c =
 pub returns : goal.returns
 returns c =
     let held = c.args.plan.now in
-    let long = AllZip-long _ held.problem.inputs held.plan.lists c.total.ensures.plan in
+    let long = AllZip-long _ held.problem.inputs held.plan.lists c.total.ensures.plan.lead in
     let count = c.inputs-count.ensures ∙ ap (λ (p : Problem). length p.inputs) (c.deref.ensures ∙ c.inst.ensures) in
     let le : length held.plan.lists ≤ c.loop-t.t = omega (arith, c.loop-t-test.false, count, long) in
     c.loop-t.invariant ∙ ap (map grouped) (take_all _ held.plan.lists le)

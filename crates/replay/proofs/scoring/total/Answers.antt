@@ -1,6 +1,6 @@
 use Rattle.std.proofs.Common.{◌≡◌, ◌∙◌, ◌+◌, length, take, ap, ap₂, sym, arith}
 use Rattle.std.proofs.lemmas.List.{take_all}
-use Rattle.tri_theory.specs.Rounds.{total}
+use Rattle.replay.specs.Scores.{total}
 use Rattle.replay.proofs.Lists.{take_push, read_at}
 use Rattle.replay.proofs.Centres.{total_push}
 use Rattle.replay.proofs.scoring.total.Goals as goal

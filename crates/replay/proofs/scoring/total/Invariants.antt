@@ -1,5 +1,5 @@
 use Rattle.std.proofs.Common.{◌≡◌, ◌≤◌, ◌*◌, take}
-use Rattle.tri_theory.specs.Rounds.{total}
+use Rattle.replay.specs.Scores.{total}
 use Rattle.replay.proofs.scoring.total.Given as goal
 
 -- the rounds of the lists so far

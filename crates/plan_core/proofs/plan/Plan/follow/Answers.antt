@@ -24,7 +24,7 @@ invariant_of-self c =
 
 pub returns-clause-plan : goal.returns-clause-plan
 returns-clause-plan c =
-    subst (λ v. followed v.problem.points v.plan c.args.e ≡ Some (plan_of c.flip.new.self.edges c.follow_all.new.tracks)) c.self.view_is
+    subst (λ v. followed v.problem.points v.plan c.args.e ≡ Some (plan_of c.self.inside.inst.value c.flip.new.self.edges c.follow_all.new.tracks)) c.self.view_is
     (follows c.self.inside.inst.value c.self.inside.centre c.self.inside.tracks c.self.invariant c.flip.new.self c.follow_all.new.tracks c.args.e c.flip.result c.flip.ensures.points c.flip.ensures.edges c.follow_all.ensures)
 
 pub returns-clause-spare : goal.returns-clause-spare

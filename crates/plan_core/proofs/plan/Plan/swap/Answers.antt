@@ -28,9 +28,9 @@ returns-clause-ok c =
     let k = subst (λ v. IsTrackFor v.problem v.plan c.args.t c.args.rounds.now c.in_ok-track.track) (sym c.self.view_is) c.in_ok-track.ensures.ok in
     let held = subst (λ v. c.cost-held.result ≡ round_count (list_at v.plan c.args.t)) (sym c.self.view_is) c.cost-held.ensures in
     subst
-    (λ v. Saves v (record { problem = c.self.inside.inst.value; plan = plan_of c.self.inside.centre.edges c.put.new.tracks; spare = least_spare c.put.new.tracks }) c.args.t c.args.rounds.now (c.cost-held.result - c.rounds-given.result)) c.self.view_is
+    (λ v. Saves v (record { problem = c.self.inside.inst.value; plan = plan_of c.self.inside.inst.value c.self.inside.centre.edges c.put.new.tracks; spare = least_spare c.put.new.tracks }) c.args.t c.args.rounds.now (c.cost-held.result - c.rounds-given.result)) c.self.view_is
     (subst
-    (λ ts. Saves (record { problem = c.self.inside.inst.value; plan = plan_of c.self.inside.centre.edges c.self.inside.tracks; spare = least_spare c.self.inside.tracks }) (record { problem = c.self.inside.inst.value; plan = plan_of c.self.inside.centre.edges ts; spare = least_spare ts }) c.args.t c.args.rounds.now (c.cost-held.result - c.rounds-given.result))
+    (λ ts. Saves (record { problem = c.self.inside.inst.value; plan = plan_of c.self.inside.inst.value c.self.inside.centre.edges c.self.inside.tracks; spare = least_spare c.self.inside.tracks }) (record { problem = c.self.inside.inst.value; plan = plan_of c.self.inside.inst.value c.self.inside.centre.edges ts; spare = least_spare ts }) c.args.t c.args.rounds.now (c.cost-held.result - c.rounds-given.result))
     (sym c.put.ensures)
     (saves c.self.inside.inst.value c.self.inside.centre c.self.inside.tracks c.self.invariant c.args.t c.args.rounds.now h k.leads c.in_ok-track.track k (least_spare c.self.inside.tracks) (least_spare (set c.self.inside.tracks c.args.t c.in_ok-track.track)) c.cost-held.result c.rounds-given.result held
     c.rounds-given.ensures c.if-held-given.false))

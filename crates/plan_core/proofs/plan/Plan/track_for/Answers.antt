@@ -17,7 +17,7 @@ returns-in_err-lead_to-clause-err c =
     (λ ps es. IsLeadFault ps es c.args.rounds.now c.self.inside.centre.edges c.in_err-lead_to.field-0.0) c.in_err-lead_to.ensures.err in
     rw (p.1, p.2)
     (subst (λ v. IsSwapFault v.problem v.plan c.args.t c.args.rounds.now c.in_err-lead_to.field-0.0) c.self.view_is
-    (lead_fault c.self.inside.inst.value (plan_of c.self.inside.centre.edges c.self.inside.tracks) c.args.t c.args.rounds.now c.in_err-lead_to.field-0.0 h))
+    (lead_fault c.self.inside.inst.value (plan_of c.self.inside.inst.value c.self.inside.centre.edges c.self.inside.tracks) c.args.t c.args.rounds.now c.in_err-lead_to.field-0.0 h))
 
 pub track_of-requires : goal.track_of-requires
 track_of-requires c =
