@@ -4,16 +4,16 @@ use Rattle.std.proofs.lemmas.Option.{slice_get_within, slice_get-get_or, get_or_
 use Rattle.geo_orient.specs.declared.Point.{Point}
 use Rattle.edge_table.specs.declared.edge.Edge.{Edge}
 use Rattle.edge_table.specs.Edges.{IsBefore}
-use Rattle.edge_table.proofs.Edges.{pair}
+use Rattle.edge_table.proofs.Edges.{pair, edge_of, edge_swap}
 use Rattle.edge_table.proofs.Ascending.{same_members}
 use Rattle.tri_theory.specs.Points.{Separates}
-use Rattle.tri_theory.specs.Triangulations.{AreJoined}
+use Rattle.tri_theory.specs.Triangulations.{AreJoined, IsTriangulation}
 use Rattle.tri_theory.specs.Inputs.{IsCompleted}
 use Rattle.tri_check.specs.declared.raw.RawPair.{RawPair}
 use Rattle.tri_check.specs.declared.fault.Bad.{Bad}
 use Rattle.tri_check.specs.declared.fault.Bad.TheVariants.{BadVertex, Loop, Blocked, Crossing, LonePoint, OpenSide}
 use Rattle.tri_check.specs.Faults.{NamesPoint, IsPairAt, IsCompletedInput, HasMembers, Holds, IsFirstFault}
-use Rattle.tri_check.specs.Stages.{IsLeast, IsNone, IsFirstEdge, IsNoEdge, HasBadVertex, IsLoop, ArePairs, pair_at, IsBlocked, CrossesLater, IsCrossed, IsEnd, HasOpenSide, AreClosed, AreEdges, IsInput, rank_of, input_of, kind_of, AreClear, IsFaultless}
+use Rattle.tri_check.specs.Stages.{IsLeast, IsNone, IsFirstEdge, IsNoEdge, HasBadVertex, IsLoop, ArePairs, pair_at, IsBlocked, CrossesLater, IsCrossed, IsEnd, IsClosed, HasOpenSide, AreClosed, AreEdges, IsInput, rank_of, input_of, kind_of, AreClear, IsFaultless}
 use Rattle.tri_check.proofs.Order.{Less_than, fields_of, lex_edge, lex_one, not_less, first_in, NoKind, NoneBelow, none_at_first, none_next, faultless}
 use Rattle.tri_check.proofs.Whole.{whole}
 use Rattle.tri_check.proofs.Nets.{not_open}
@@ -199,6 +199,19 @@ module _ (points : List Point) (inputs : List (List RawPair)) (t : ℕ) (raw : L
       triangulation = whole points edges is.2.ascending E B C ends closed;
       faultless = faultless points inputs t clear before (none_next points inputs t clear before 14 (below_14 P N B C ends) (no_open closed));
     }
+
+    -- a triangulation has none of these faults
+    pub quick_answer : ArePairs points raw → IsNone (length raw) (IsLoop raw) → AreEdges points edges → IsTriangulation points edges → IsInput points inputs t edges
+    quick_answer P N E I = input_answer P N E (λ e h b. (I.segments e h).clear b.0 b.1 b.2) (λ e h x. I.planar e x.0 h x.1 x.2.1) I.ends (λ e h. (at_member e h, back_member e h))
+      where
+        joined : (e : Edge) → Contains edges e → AreJoined edges e.0 e.1
+        joined e h = subst (Contains edges) (sym (edge_of e (E.low_first e h))) h
+
+        at_member : (e : Edge) → Contains edges e → IsClosed points edges e.0 e.1
+        at_member e h = λ p l left. I.sides e.0 e.1 p (joined e h) l left
+
+        back_member : (e : Edge) → Contains edges e → IsClosed points edges e.1 e.0
+        back_member e h = λ p l left. I.sides e.1 e.0 p (subst (Contains edges) (edge_swap e.0 e.1) (joined e h)) l left
 
   pub bad_answer : (p : ℕ) → IsLeast (length raw) (HasBadVertex points raw) p → IsFirstFault points inputs (BadVertex t p)
   bad_answer p L = first_bad p L (none_at_first points inputs t clear before)

@@ -1,5 +1,5 @@
 -- Searches, and tests that they make.
-use Rattle.std.proofs.Common.{◌≡◌, ◌⊎◌, inl, inr, ◌↔◌, ℕ, ◌+◌, ◌<◌, ◌≤◌, Bool, true, false, true≢false, List, length, get_or, Contains, Option, Some, None, MatchOption, MatchBool, is_some, not, slice_get, sym, ◌∙◌, subst, refl, arith}
+use Rattle.std.proofs.Common.{◌≡◌, ◌⊎◌, inl, inr, ◌↔◌, ℕ, ◌+◌, ◌<◌, ◌≤◌, Bool, true, false, true≢false, List, length, get_or, Contains, Option, Some, None, MatchOption, MatchBool, is_some, not, slice_get, unwrap_or, sym, ap, ◌∙◌, subst, refl, arith}
 use Rattle.std.specs.Bool.{IsTrue}
 use Rattle.std.proofs.lemmas.Option.{get_or_from_slice_get}
 use native.Mathlib.Decide.{dec_lt}
@@ -45,6 +45,14 @@ on_true false P Q h e = absurd (true≢false (sym e))
 pub on_false : (b : Bool) (P Q : Type 0) → MatchBool b P Q → b ≡ false → Q
 on_false true P Q h e = absurd (true≢false e)
 on_false false P Q h e = h
+
+pub on_some : {X : Type 0} (o : Option X) (P : Type 0) (Q : X → Type 0) (x : X) → MatchOption o P Q → o ≡ Some x → Q x
+on_some None P Q x h e = cc
+on_some (Some y) P Q x h e = subst Q (ap (λ p. unwrap_or p y) e) h
+
+pub on_none : {X : Type 0} (o : Option X) (P : Type 0) (Q : X → Type 0) → MatchOption o P Q → ((x : X) → ¬ (o ≡ Some x)) → P
+on_none None P Q h n = h
+on_none (Some y) P Q h n = absurd (n y refl)
 
 -- ---- members by their places
 pub all_before_more : (edges : List Edge) (P : Edge → Type 0) (i : ℕ) (e : Edge) → slice_get edges i ≡ Some e → AllBefore edges P i → P e → AllBefore edges P (i + 1)

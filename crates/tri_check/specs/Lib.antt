@@ -4,3 +4,4 @@ pub mod Hulls
 pub mod Layouts
 pub mod Problems
 pub mod Stages
+pub mod Tables

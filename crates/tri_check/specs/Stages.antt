@@ -1,5 +1,5 @@
 -- What is known of raw values once some kinds of fault are ruled out.
-use Rattle.std.specs.Prelude.{◌≡◌, ◌≢◌, ◌⊎◌, ℕ, ◌<◌, ◌≤◌, pos, List, length, Contains, Some, slice_get, slice_index_or, unsigned_abs, ◌≤ℤ◌, ◌<ℤ◌}
+use Rattle.std.specs.Prelude.{◌≡◌, ◌≢◌, ◌⊎◌, ◌↔◌, ℕ, ◌<◌, ◌≤◌, pos, List, length, take, Contains, Some, slice_get, slice_index_or, unsigned_abs, ◌≤ℤ◌, ◌<ℤ◌}
 use Rattle.geo_orient.specs.declared.Point.{Point}
 use Rattle.edge_table.specs.declared.edge.Edge.{Edge}
 use Rattle.edge_table.specs.Edges.{edge, IsBefore, IsAscending}
@@ -101,6 +101,17 @@ pub record AreMembers (points : List Point) (pairs : List RawPair) (edges : List
   pub sound : (e : Edge) → Contains edges e → ((k : ℕ) × (k < p) × (e ≡ edge_at pairs k)) ⊎ IsHullSegment points e
   pub listed : (k : ℕ) → k < p → Contains edges (edge_at pairs k)
   pub hull : (e : Edge) → IsHullSegment points e → Contains edges e
+
+-- the listed edges are the hull segments and the edges of the first p pairs
+pub record AreGathered (points : List Point) (pairs : List RawPair) (items : List Edge) (p : ℕ) : Type 0 where
+  pub sound : (e : Edge) → Contains items e → ((k : ℕ) × (k < p) × (e ≡ edge_at pairs k)) ⊎ IsHullSegment points e
+  pub listed : (k : ℕ) → k < p → Contains items (edge_at pairs k)
+  pub hull : (e : Edge) → IsHullSegment points e → Contains items e
+
+-- the set has the first i of the listed edges
+pub record HasFirst (items : List Edge) (edges : List Edge) (i : ℕ) : Type 0 where
+  pub ascending : IsAscending edges
+  pub members : (e : Edge) → Contains edges e ↔ Contains (take i items) e
 
 -- ---- members
 

@@ -1,16 +1,18 @@
 // The validator's steps, in the order of the faults.
-ghost use Rattle.std.specs.Prelude.{◌≡◌, ◌<◌, ◌≤◌, ℕ, length, sum, map, IfOk, IfErr, OnOk, IfSome};
+ghost use Rattle.std.specs.Prelude.{◌≡◌, ◌<◌, ◌≤◌, ℕ, length, sum, map, IfOk, IfErr, OnOk, IfSome, MatchOption};
 ghost use Rattle.tri_check.specs.Accepted.{IsRefusal};
 ghost use Rattle.tri_check.specs.Stages as stage;
 
 use crate::hull::hull;
+use crate::keys::are_distinct;
 use crate::members::{bad_vertex, first_loop, members};
 use crate::network::{blocked, crossing, lone_point, open_side};
 use crate::points::{are_collinear, out_of_reach, repeated};
+use crate::table::is_triangulation;
 use crate::{Bad, CheckFault, PointList, RawInputs, Triang};
 use edge_table::EdgeList;
 use geo_orient::Point;
-use std::alloc::Global;
+use std::alloc::{AllocError, Global};
 use std::sync::Arc;
 
 const MAX_POINTS: usize = 16_384;
@@ -52,8 +54,24 @@ pub(crate) fn check_limits(points: &[Point], inputs: &RawInputs) -> Result<(), C
     }
 }
 
+// The first two equal points. All pairs are only compared where the points aren't shown to differ at once.
+fn first_repeat(alloc: Global, points: &[Point]) -> Result<Option<(u32, u32)>, AllocError>
+    requires { stage.AreUsable points.now }
+    ensures { IfOk result (λ o. MatchOption o (stage.AreDistinct points.now) (λ r. stage.IsFirstRepeat points.now r.0 r.1)) }
+{
+    let are_shown = are_distinct(alloc, points)?;
+    if are_shown {
+        return Ok(None);
+    }
+    Ok(repeated(points))
+}
+
 // Whether the points are in reach, distinct and not all on one line, and there is an input.
-pub(crate) fn check_points(points: &[Point], inputs: &RawInputs) -> Result<(), CheckFault>
+pub(crate) fn check_points(
+    alloc: Global,
+    points: &[Point],
+    inputs: &RawInputs,
+) -> Result<(), CheckFault>
     requires { stage.AreLimited points.now inputs.now }
     ensures ok { OnOk result (stage.AreSound points.now inputs.now) }
     ensures err { IfErr result (IsRefusal points.now inputs.now) }
@@ -64,7 +82,8 @@ pub(crate) fn check_points(points: &[Point], inputs: &RawInputs) -> Result<(), C
     if points.len() < 3 {
         return Err(CheckFault::Bad(Bad::TooFewPoints(points.len() as u64)));
     }
-    if let Some((i, j)) = repeated(points) {
+    let twice = first_repeat(alloc, points)?;
+    if let Some((i, j)) = twice {
         return Err(CheckFault::Bad(Bad::RepeatedPoint(i, j)));
     }
     if are_collinear(points) {
@@ -76,8 +95,9 @@ pub(crate) fn check_points(points: &[Point], inputs: &RawInputs) -> Result<(), C
     Ok(())
 }
 
-// The members of the input with the place `t`, where they are a triangulation.
+// The members of the input with the place `t`, where they are a triangulation. Only where that isn't shown at once are faults looked for, kind by kind.
 fn check_input(
+    alloc: Global,
     points: &[Point],
     inputs: &RawInputs,
     hull: &EdgeList,
@@ -98,7 +118,11 @@ fn check_input(
     if let Some(p) = first_loop(pairs) {
         return Err(CheckFault::Bad(Bad::Loop(number, p as u64)));
     }
-    let edges = members(points, pairs, hull)?;
+    let edges = members(alloc, points, pairs, hull)?;
+    let is_shown = is_triangulation(alloc, points, &edges, hull)?;
+    if is_shown {
+        return Ok(edges);
+    }
     if let Some((e, q)) = blocked(points, &edges) {
         return Err(CheckFault::Bad(Bad::Blocked(number, e, q)));
     }
@@ -128,7 +152,7 @@ pub(crate) fn check_inputs(
     let hull = hull(alloc, list)?;
     let mut items = Vec::new(alloc);
     for t in 0..inputs.len() {
-        let edges = check_input(list, inputs, &hull, t)?;
+        let edges = check_input(alloc, list, inputs, &hull, t)?;
         items.push(Triang::from_edges(Arc::try_clone(points)?, edges))?;
     }
     Ok(items)

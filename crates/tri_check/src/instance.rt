@@ -39,7 +39,7 @@ fn triangulation_at(inputs: &[Triang], i: usize) -> &Triang
 }
 
 impl Instance {
-    /// The instance of raw values, or what is wrong with them. Time grows with the square of the number of points and of the members of each input, and for each member with the number of points.
+    /// The instance of raw values, or what is wrong with them. For an instance, time grows with the number of points and of members, and with their logarithm. Only what isn't shown to be one at once is searched for its first fault, and then time grows with the square of the number of points and of the members of an input, and for each member with the number of points.
     pub fn check(alloc: Global, raw: RawInstance) -> Result<Arc<Self>, CheckFault>
         ensures ok { IfOk result (λ i. IsAccepted raw.uid raw.points raw.inputs i.value) }
         ensures bad { IfErr result (IsRefusal raw.points raw.inputs) }
@@ -50,7 +50,7 @@ impl Instance {
             inputs: listed,
         } = raw;
         check_limits(points.as_slice(), &listed)?;
-        check_points(points.as_slice(), &listed)?;
+        check_points(alloc, points.as_slice(), &listed)?;
         let points = Arc::new(alloc, points)?;
         let inputs = check_inputs(alloc, &points, &listed)?;
         Ok(Arc::new(

@@ -5,10 +5,13 @@ mod check;
 mod fault;
 mod hull;
 mod instance;
+mod keys;
 mod members;
 mod network;
+mod numbers;
 mod points;
 mod raw;
+mod table;
 mod triang;
 mod uid;
 

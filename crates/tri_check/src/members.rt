@@ -7,7 +7,7 @@ ghost use Rattle.tri_check.specs.Stages as stage;
 use crate::RawPair;
 use edge_table::{Edge, EdgeList};
 use geo_orient::Point;
-use std::alloc::AllocError;
+use std::alloc::{AllocError, Global};
 
 // Whether both numbers name points.
 fn names_points(points: &[Point], pair: RawPair) -> bool
@@ -58,27 +58,70 @@ fn edge_of(points: &[Point], pair: RawPair) -> Option<Edge>
 fn add_pair(
     points: &[Point],
     pairs: &[RawPair],
-    edges: &mut EdgeList,
+    items: &mut Vec<Edge>,
     p: usize,
 ) -> Result<(), AllocError>
     requires usable { stage.AreUsable points.now }
     requires pairs { stage.ArePairs points.now pairs.now }
     requires apart { stage.IsNone (length pairs.now) (stage.IsLoop pairs.now) }
     requires within { p < length pairs.now }
-    requires members { stage.AreMembers points.now pairs.now edges.old p }
-    ensures { OnOk result (stage.AreMembers points.now pairs.now edges.new (p + 1)) }
+    requires gathered { stage.AreGathered points.now pairs.now items.old.items p }
+    ensures { OnOk result (stage.AreGathered points.now pairs.now items.new.items (p + 1)) }
 {
     match edge_of(points, pairs[p]) {
         Some(e) => {
-            edges.insert(e)?;
+            items.push(e)?;
             Ok(())
         }
         None => Ok(()),
     }
 }
 
+// The edges of the hull, as they are listed.
+fn listed(alloc: Global, hull: &EdgeList) -> Result<Vec<Edge>, AllocError>
+    ensures { IfOk result (λ v. v.items ≡ hull.now) }
+{
+    let mut items = Vec::new(alloc);
+    for i in 0..hull.len() {
+        items.push(hull.at(i))?;
+    }
+    Ok(items)
+}
+
+// The edges of the hull and of all pairs, one after the other.
+fn gathered(
+    alloc: Global,
+    points: &[Point],
+    pairs: &[RawPair],
+    hull: &EdgeList,
+) -> Result<Vec<Edge>, AllocError>
+    requires usable { stage.AreUsable points.now }
+    requires pairs { stage.ArePairs points.now pairs.now }
+    requires apart { stage.IsNone (length pairs.now) (stage.IsLoop pairs.now) }
+    requires hull { stage.AreHull points.now hull.now }
+    ensures { IfOk result (λ v. stage.AreGathered points.now pairs.now v.items (length pairs.now)) }
+{
+    let mut items = listed(alloc, hull)?;
+    for p in 0..pairs.len() {
+        add_pair(points, pairs, &mut items, p)?;
+    }
+    Ok(items)
+}
+
+// The edges as a set. Time grows with their number where they ascend.
+fn set_of(alloc: Global, items: &[Edge]) -> Result<EdgeList, AllocError>
+    ensures { IfOk result (λ s. stage.HasFirst items.now s (length items.now)) }
+{
+    let mut edges = EdgeList::make(alloc);
+    for i in 0..items.len() {
+        edges.insert(items[i])?;
+    }
+    Ok(edges)
+}
+
 // The members.
 pub(crate) fn members(
+    alloc: Global,
     points: &[Point],
     pairs: &[RawPair],
     hull: &EdgeList,
@@ -90,9 +133,8 @@ pub(crate) fn members(
     ensures completed { IfOk result (IsCompletedInput points.now pairs.now) }
     ensures edges { IfOk result (stage.AreEdges points.now) }
 {
-    let mut edges = hull.copy()?;
-    for p in 0..pairs.len() {
-        add_pair(points, pairs, &mut edges, p)?;
-    }
+    let mut items = gathered(alloc, points, pairs, hull)?;
+    items.sort()?;
+    let edges = set_of(alloc, &items)?;
     Ok(edges)
 }

@@ -1,0 +1,9 @@
+pub mod Halves
+pub mod Once
+pub mod Outer
+pub mod Patches
+pub mod Proved
+pub mod Slopes
+pub mod Spots
+pub mod Sums
+pub mod Winding
