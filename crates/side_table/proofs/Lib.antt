@@ -1,4 +1,5 @@
-pub mod Nodes
+pub mod Chains
 pub mod Ordered
+pub mod Orders
 pub mod Parts
-pub mod Puts
+pub mod Places

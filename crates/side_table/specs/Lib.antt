@@ -1,2 +1,3 @@
+pub mod Chains
 pub mod Sides
-pub mod Trees
+pub mod Slots

@@ -1,9 +1,10 @@
-//! The directed edges of a mesh, found by their ends in logarithmic time, and exchanged without memory.
+//! The directed edges of a mesh, found by their ends in a few steps, and exchanged without memory.
 #![tactic(auto)]
 
+mod chain;
 mod side;
+mod slots;
 mod table;
-mod tree;
 
 pub use side::Side;
 pub use table::SideTable;

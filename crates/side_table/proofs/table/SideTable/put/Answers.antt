@@ -1,27 +1,34 @@
-use Rattle.std.proofs.Common.{List, subst}
+use Rattle.std.proofs.Common.{List, sym, subst, arith}
 use Rattle.side_table.specs.declared.side.Side.{Side}
 use Rattle.side_table.specs.Sides.{HasSide, PutsSide}
-use Rattle.side_table.specs.Trees.{IsRest}
-use Rattle.side_table.proofs.Puts.{rest_ordered, fresh_rest, puts}
+use Rattle.side_table.specs.Slots.{AreDistinct, IsPlace, in_order}
+use Rattle.side_table.proofs.Places.{distinct_set, has_in_order, has_in_slots}
+use Rattle.side_table.proofs.Orders.{puts}
 use Rattle.side_table.proofs.table.SideTable.put.Goals as goal
-
-pub insert-requires-clause-ordered : goal.insert-requires-clause-ordered
-insert-requires-clause-ordered c =
-    rest_ordered _ _ c.args.u c.args.v c.self.invariant (subst (λ (ss : List Side). IsRest ss c.remove-rest.result.tree c.args.u c.args.v) c.replace-tree.ensures.value c.remove-rest.ensures)
-
-pub insert-requires-clause-fresh : goal.insert-requires-clause-fresh
-insert-requires-clause-fresh c =
-    fresh_rest _ _ c.args.u c.args.v c.args.t c.self.invariant
-    (subst (λ (ss : List Side). IsRest ss c.remove-rest.result.tree c.args.u c.args.v) c.replace-tree.ensures.value c.remove-rest.ensures)
-    (λ x y h. c.requires.fresh x y (subst (λ (ss : List Side). HasSide ss x y) c.self.view_is h))
 
 pub invariant_of-self : goal.invariant_of-self
 invariant_of-self c =
-    (puts _ _ _ c.args.u c.args.v c.args.t c.self.invariant
-    (subst (λ (ss : List Side). IsRest ss c.remove-rest.result.tree c.args.u c.args.v) c.replace-tree.ensures.value c.remove-rest.ensures) c.insert.ensures).ordered
+    let ss = c.self.inside.slots.items in
+    let P = subst (λ (ss : List Side). IsPlace ss c.args.u c.args.v c.in-Some.place) c.deref-3.ensures.value c.in-Some.ensures in
+    let D = distinct_set ss c.args.u c.args.v c.in-Some.place c.args.t c.self.invariant.distinct P
+    (λ x y h. c.requires.fresh x y (subst (λ (ss : List Side). HasSide ss x y) c.self.view_is (has_in_order ss x y h))) in
+    record {
+      distinct = subst AreDistinct (sym c.exchange.ensures.slots) D;
+      buckets = λ l. (let e = c.exchange.ensures.heads_len in let w = P.within in let b = c.self.invariant.buckets (omega arith) in omega arith);
+      chained = c.exchange.ensures.chained;
+    }
+
+pub unreachable-requires : goal.unreachable-requires
+unreachable-requires c =
+    let N = subst (λ (ss : List Side). ¬ HasSide ss c.args.u c.args.v) c.deref-3.ensures.value c.in-None.ensures in
+    N (has_in_slots c.self.inside.slots.items c.args.u c.args.v (subst (λ (ss : List Side). HasSide ss c.args.u c.args.v) (sym c.self.view_is) c.requires.there))
 
 pub returns : goal.returns
 returns c =
-    subst (λ (ss : List Side). PutsSide ss c.insert.result c.args.u c.args.v c.args.t) c.self.view_is
-    (puts _ _ _ c.args.u c.args.v c.args.t c.self.invariant
-    (subst (λ (ss : List Side). IsRest ss c.remove-rest.result.tree c.args.u c.args.v) c.replace-tree.ensures.value c.remove-rest.ensures) c.insert.ensures)
+    let ss = c.self.inside.slots.items in
+    let P = subst (λ (ss : List Side). IsPlace ss c.args.u c.args.v c.in-Some.place) c.deref-3.ensures.value c.in-Some.ensures in
+    let D = distinct_set ss c.args.u c.args.v c.in-Some.place c.args.t c.self.invariant.distinct P
+    (λ x y h. c.requires.fresh x y (subst (λ (ss : List Side). HasSide ss x y) c.self.view_is (has_in_order ss x y h))) in
+    subst (λ (old : List Side). PutsSide old (in_order c.exchange.new.slots.items) c.args.u c.args.v c.args.t) c.self.view_is
+    (subst (λ (new : List Side). PutsSide (in_order ss) (in_order new) c.args.u c.args.v c.args.t) (sym c.exchange.ensures.slots)
+    (puts ss c.args.u c.args.v c.in-Some.place c.args.t c.self.invariant.distinct P D))

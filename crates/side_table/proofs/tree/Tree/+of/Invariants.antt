@@ -1,5 +1,0 @@
-use Rattle.std.proofs.Common.{length}
-use Rattle.side_table.proofs.tree.Tree.+of.Given as goal
-
-abbrev pub decreases-of : goal.decreases-of
-decreases-of l = length l.sides.now

@@ -1,4 +1,0 @@
-use Rattle.side_table.proofs.tree.Tree.+remove.Given as goal
-
-abbrev pub decreases-remove : goal.decreases-remove
-decreases-remove l = goal.size-remove l
