@@ -2,7 +2,8 @@
 use Rattle.bound_law.specs.Laws.{CopiesAreCounted, CopiesAreInOrder, CopiesAreInputs, UnitWeightsCopyOnce, UnitWeightsKeepBounds, CopiesArePlans, CopiesKeepBounds, PlansJoinInputs, AssignmentsBoundPlans}
 use Rattle.bound_law.proofs.Bounded.{plan_joins}
 use Rattle.std.specs.Prelude.{[]}
-use Rattle.bound_law.proofs.Copies.{copies_counted, copies_in_order, copies_items, copied_once, unit_bound, copies_plan, copies_total, copies_bounds, weights_bound}
+use Rattle.tri_theory.proofs.Copies.{copies_counted, copies_in_order, copies_items}
+use Rattle.bound_law.proofs.Copies.{copied_once, unit_bound, copies_plan, copies_total, copies_bounds, weights_bound}
 
 pub copies_are_counted : CopiesAreCounted
 copies_are_counted inputs weights W = copies_counted weights inputs W.one_each

@@ -18,7 +18,8 @@ use Rattle.star_law.specs.Stars.{taken, rest_of, IsRearranged, paired_sum, star_
 use Rattle.formula_law.proofs.Clauses.{not_both, in_none, in_first, in_later, in_cases, in_filter, any_true, flat_mapped, ranged, in_range}
 use Rattle.formula_law.proofs.OrderedLists.{pairs_tail, pairs_head, pairs_append}
 use Rattle.bound_law.proofs.Bounded.{round_sum, plan_long, plan_at, plan_joins}
-use Rattle.bound_law.proofs.Copies.{copies_counted, copies_plan, copies_total, copies_all}
+use Rattle.tri_theory.proofs.Copies.{copies_counted}
+use Rattle.bound_law.proofs.Copies.{copies_plan, copies_total, copies_all}
 
 -- ---- a sum over distinct members of a list is at most that over the list
 module _ (f : ℕ → ℕ) where

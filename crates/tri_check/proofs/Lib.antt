@@ -10,4 +10,5 @@ pub mod PointFaults
 pub mod Searches
 pub mod Tables
 pub mod Ways
+pub mod Weighed
 pub mod Whole

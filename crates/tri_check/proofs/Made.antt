@@ -11,9 +11,8 @@ use Rattle.tri_check.specs.declared.raw.RawPair.{RawPair}
 use Rattle.tri_check.specs.declared.fault.Bad.{Bad}
 use Rattle.tri_check.specs.declared.fault.Bad.TheVariants.{BadVertex, Loop, Blocked, Crossing, LonePoint, OpenSide}
 use Rattle.tri_check.specs.Layouts.{Layout}
-use Rattle.tri_check.specs.Problems.{Problem, AreInputs, all_edges}
-use Rattle.tri_check.specs.Faults.{IsCompletedInput, Holds, IsValid}
-use Rattle.tri_check.specs.Accepted.{IsAccepted}
+use Rattle.tri_check.specs.Problems.{AreFewWeights, AreInputs, all_edges}
+use Rattle.tri_check.specs.Faults.{IsCompletedInput, HoldsOfShape}
 use Rattle.tri_check.specs.Stages.{AreSound, AreDone, IsInput, rank_of, input_of}
 use Rattle.tri_check.proofs.Searches.{split}
 use Rattle.tri_check.proofs.Order.{ranked}
@@ -54,8 +53,12 @@ module _ (points : List Point) (raw : List (List RawPair)) (layouts : List Layou
   edges_at : (k : ℕ) (d : Layout) (e : List Edge) → k < length layouts → get_or (all_edges layouts) k e ≡ (get_or layouts k d).edges
   edges_at k d e l = get_or-map (λ (t : Layout). t.edges) layouts k d e l
 
-  pub inputs_of : AreInputs points layouts
-  inputs_of = record {
+  pub as_many : length (all_edges layouts) ≡ length raw
+  as_many = length-map layouts (λ (t : Layout). t.edges) ∙ D.count
+
+  pub inputs_of : (weights : List ℕ) → AreFewWeights (all_edges layouts) weights → AreInputs points layouts weights
+  inputs_of weights W = record {
+    weighed = W;
     problem = record {
       some_points = S.some_points;
       few_points = S.usable.few;
@@ -73,7 +76,7 @@ module _ (points : List Point) (raw : List (List RawPair)) (layouts : List Layou
           let m : k < length layouts = omega (arith, length-map layouts (λ (t : Layout). t.edges)) in
           subst (IsTriangulation points) (sym (edges_at k no_layout edges m) ∙ h) (D.inputs k no_layout (let c = D.count in omega arith)).triangulation
 
-  in_input : (c : Bad) → rank_of c ≡ 9 → Holds points raw c → input_of c < length raw
+  in_input : (c : Bad) → rank_of c ≡ 9 → HoldsOfShape points raw c → input_of c < length raw
   in_input (BadVertex t p) r (q, (pairs, h, k), bad) = slice_get_within raw t pairs h
   in_input (Loop t p) r (q, (pairs, h, k), bad) = slice_get_within raw t pairs h
   in_input (Blocked t e q) r (es, (pairs, h, k), _, _, _) = slice_get_within raw t pairs h
@@ -82,8 +85,8 @@ module _ (points : List Point) (raw : List (List RawPair)) (layouts : List Layou
   in_input (OpenSide t e) r (es, (pairs, h, k), _, _) = slice_get_within raw t pairs h
   in_input _ r h = absurd (omega arith)
 
-  pub valid : IsValid points raw
-  valid b h = by_rank (ranked b)
+  pub shaped : (b : Bad) → ¬ HoldsOfShape points raw b
+  shaped b h = by_rank (ranked points raw b h)
     where
       by_rank : (rank_of b < 9) ⊎ (rank_of b ≡ 9) → ⊥
       by_rank (inl l) = S.clear.none b l h
@@ -103,6 +106,3 @@ module _ (points : List Point) (raw : List (List RawPair)) (layouts : List Layou
           let l = slice_get_within raw k x h in
           let m : k < length layouts = (let c = D.count in omega arith) in
           subst (IsCompletedInput points x) (sym (edges_at k no_layout y m) ∙ get_or_from_slice_get (all_edges layouts) k y y i) ((D.inputs k no_layout l).completed x h)
-
-  pub accepted : (name : List ℕ) (problem : Problem) → problem.uid ≡ name → problem.points ≡ points → problem.inputs ≡ all_edges layouts → IsAccepted name points raw problem
-  accepted name problem u p i = record { uid = u; points = p; inputs = subst (AllZip (IsCompletedInput points) raw) (sym i) completed; valid = valid }

@@ -12,9 +12,9 @@ use Rattle.edge_table.specs.Edges.{IsBefore}
 use Rattle.edge_table.proofs.Edges.{pair}
 use Rattle.tri_check.specs.declared.raw.RawPair.{RawPair}
 use Rattle.tri_check.specs.declared.fault.Bad.{Bad}
-use Rattle.tri_check.specs.declared.fault.Bad.TheVariants.{TooManyPoints, TooManyInputs, TooManyPairs, CoordinateRange, TooFewPoints, RepeatedPoint, Collinear, NoInput, BadVertex, Loop, Blocked, Crossing, LonePoint, OpenSide}
-use Rattle.tri_check.specs.Faults.{Holds, place_of, IsFirstFault}
-use Rattle.tri_check.specs.Stages.{rank_of, input_of, kind_of, AreClear, IsFaultless}
+use Rattle.tri_check.specs.declared.fault.Bad.TheVariants.{TooManyPoints, TooManyInputs, TooManyPairs, CoordinateRange, TooFewPoints, RepeatedPoint, Collinear, NoInput, BadVertex, Loop, Blocked, Crossing, LonePoint, OpenSide, WeightRange, WeightSum}
+use Rattle.tri_check.specs.Faults.{HoldsOfShape, place_of}
+use Rattle.tri_check.specs.Stages.{IsFirstOfShape, rank_of, input_of, kind_of, AreClear, IsFaultless}
 use Rattle.tri_check.proofs.Searches.{split}
 
 abbrev pub Less_than : List ℕ → List ℕ → Type 0
@@ -64,7 +64,7 @@ rest_of c = rest (place_of c)
 abbrev pub fields_of : Bad → List ℕ
 fields_of c = rest (rest (rest (place_of c)))
 
-placed : (c : Bad) → place_of c ≡ rank_of c ∷ rest_of c
+pub placed : (c : Bad) → place_of c ≡ rank_of c ∷ rest_of c
 placed (TooManyPoints n) = refl
 placed (TooManyInputs n) = refl
 placed (TooManyPairs n) = refl
@@ -79,6 +79,8 @@ placed (Blocked t e q) = refl
 placed (Crossing t e f) = refl
 placed (LonePoint t p) = refl
 placed (OpenSide t e) = refl
+placed (WeightRange t) = refl
+placed (WeightSum s) = refl
 
 placed_in : (c : Bad) → rank_of c ≡ 9 → rest_of c ≡ input_of c ∷ kind_of c ∷ fields_of c
 placed_in (TooManyPoints n) r = absurd (omega arith)
@@ -95,22 +97,26 @@ placed_in (Blocked t e q) r = refl
 placed_in (Crossing t e f) r = refl
 placed_in (LonePoint t p) r = refl
 placed_in (OpenSide t e) r = refl
+placed_in (WeightRange t) r = absurd (omega arith)
+placed_in (WeightSum s) r = absurd (omega arith)
 
-pub ranked : (c : Bad) → (rank_of c < 9) ⊎ (rank_of c ≡ 9)
-ranked (TooManyPoints n) = inl (omega arith)
-ranked (TooManyInputs n) = inl (omega arith)
-ranked (TooManyPairs n) = inl (omega arith)
-ranked (CoordinateRange i) = inl (omega arith)
-ranked (TooFewPoints n) = inl (omega arith)
-ranked (RepeatedPoint i j) = inl (omega arith)
-ranked Collinear = inl (omega arith)
-ranked NoInput = inl (omega arith)
-ranked (BadVertex t p) = inr refl
-ranked (Loop t p) = inr refl
-ranked (Blocked t e q) = inr refl
-ranked (Crossing t e f) = inr refl
-ranked (LonePoint t p) = inr refl
-ranked (OpenSide t e) = inr refl
+pub ranked : (points : List Point) (inputs : List (List RawPair)) (c : Bad) → HoldsOfShape points inputs c → (rank_of c < 9) ⊎ (rank_of c ≡ 9)
+ranked points inputs (TooManyPoints n) h = inl (omega arith)
+ranked points inputs (TooManyInputs n) h = inl (omega arith)
+ranked points inputs (TooManyPairs n) h = inl (omega arith)
+ranked points inputs (CoordinateRange i) h = inl (omega arith)
+ranked points inputs (TooFewPoints n) h = inl (omega arith)
+ranked points inputs (RepeatedPoint i j) h = inl (omega arith)
+ranked points inputs Collinear h = inl (omega arith)
+ranked points inputs NoInput h = inl (omega arith)
+ranked points inputs (BadVertex t p) h = inr refl
+ranked points inputs (Loop t p) h = inr refl
+ranked points inputs (Blocked t e q) h = inr refl
+ranked points inputs (Crossing t e f) h = inr refl
+ranked points inputs (LonePoint t p) h = inr refl
+ranked points inputs (OpenSide t e) h = inr refl
+ranked points inputs (WeightRange t) h = absurd h
+ranked points inputs (WeightSum s) h = absurd h
 
 pub kinds : (c : Bad) → rank_of c ≡ 9 → (9 ≤ kind_of c) × (kind_of c < 15)
 kinds (BadVertex t p) r = (omega arith, omega arith)
@@ -123,21 +129,21 @@ kinds _ r = absurd (omega arith)
 
 module _ (points : List Point) (inputs : List (List RawPair)) where
   -- ---- the first eight kinds
-  pub first_of : (b : Bad) (x : ℕ) (xs : List ℕ) → place_of b ≡ x ∷ xs → AreClear points inputs x → Holds points inputs b → ((c : Bad) → rank_of c ≡ x → Less_than (rest_of c) xs → ¬ Holds points inputs c) → IsFirstFault points inputs b
+  pub first_of : (b : Bad) (x : ℕ) (xs : List ℕ) → place_of b ≡ x ∷ xs → AreClear points inputs x → HoldsOfShape points inputs b → ((c : Bad) → rank_of c ≡ x → Less_than (rest_of c) xs → ¬ HoldsOfShape points inputs c) → IsFirstOfShape points inputs b
   first_of b x xs is clear holds same = record { holds = holds; first = λ c l. by_cases c (lex (rank_of c) x (rest_of c) xs (subst (λ ys. Less_than ys (x ∷ xs)) (placed c) (subst (λ ys. Less_than (place_of c) ys) is l))) }
     where
-      by_cases : (c : Bad) → (rank_of c < x) ⊎ ((rank_of c ≡ x) × Less_than (rest_of c) xs) → ¬ Holds points inputs c
+      by_cases : (c : Bad) → (rank_of c < x) ⊎ ((rank_of c ≡ x) × Less_than (rest_of c) xs) → ¬ HoldsOfShape points inputs c
       by_cases c (inl l) = clear.none c l
       by_cases c (inr (e, l)) = same c e l
 
   -- of a kind with no order among its faults
-  pub first_plain : (b : Bad) (x : ℕ) → place_of b ≡ x ∷ [] → AreClear points inputs x → Holds points inputs b → IsFirstFault points inputs b
+  pub first_plain : (b : Bad) (x : ℕ) → place_of b ≡ x ∷ [] → AreClear points inputs x → HoldsOfShape points inputs b → IsFirstOfShape points inputs b
   first_plain b x is clear holds = first_of b x [] is clear holds (λ c e l. absurd (not_less (rest_of c) l))
 
-  pub clear_next : (k : ℕ) → AreClear points inputs k → ((c : Bad) → rank_of c ≡ k → ¬ Holds points inputs c) → AreClear points inputs (k + 1)
+  pub clear_next : (k : ℕ) → AreClear points inputs k → ((c : Bad) → rank_of c ≡ k → ¬ HoldsOfShape points inputs c) → AreClear points inputs (k + 1)
   clear_next k clear here = record { none = λ c l. by_cases c (split k (rank_of c) l) }
     where
-      by_cases : (c : Bad) → (rank_of c < k) ⊎ (rank_of c ≡ k) → ¬ Holds points inputs c
+      by_cases : (c : Bad) → (rank_of c < k) ⊎ (rank_of c ≡ k) → ¬ HoldsOfShape points inputs c
       by_cases c (inl l) = clear.none c l
       by_cases c (inr e) = here c e
 
@@ -145,10 +151,10 @@ module _ (points : List Point) (inputs : List (List RawPair)) where
   module _ (t : ℕ) (clear : AreClear points inputs 9) (before : (s : ℕ) → s < t → IsFaultless points inputs s) where
     -- this input has no fault of a kind, or of a kind below one
     abbrev pub NoKind : ℕ → Type 0
-    NoKind k = (c : Bad) → rank_of c ≡ 9 → input_of c ≡ t → kind_of c ≡ k → ¬ Holds points inputs c
+    NoKind k = (c : Bad) → rank_of c ≡ 9 → input_of c ≡ t → kind_of c ≡ k → ¬ HoldsOfShape points inputs c
 
     abbrev pub NoneBelow : ℕ → Type 0
-    NoneBelow k = (c : Bad) → rank_of c ≡ 9 → input_of c ≡ t → kind_of c < k → ¬ Holds points inputs c
+    NoneBelow k = (c : Bad) → rank_of c ≡ 9 → input_of c ≡ t → kind_of c < k → ¬ HoldsOfShape points inputs c
 
     pub none_at_first : NoneBelow 9
     none_at_first c r i l = absurd (let k = kinds c r in omega (arith, k.0))
@@ -156,23 +162,23 @@ module _ (points : List Point) (inputs : List (List RawPair)) where
     pub none_next : (k : ℕ) → NoneBelow k → NoKind k → NoneBelow (k + 1)
     none_next k below here c r i l = by_cases (split k (kind_of c) l)
       where
-        by_cases : (kind_of c < k) ⊎ (kind_of c ≡ k) → ¬ Holds points inputs c
+        by_cases : (kind_of c < k) ⊎ (kind_of c ≡ k) → ¬ HoldsOfShape points inputs c
         by_cases (inl m) = below c r i m
         by_cases (inr e) = here c r i e
 
     pub faultless : NoneBelow 15 → IsFaultless points inputs t
     faultless below = record { none = λ c r i. below c r i (kinds c r).1 }
 
-    pub first_in : (b : Bad) (k : ℕ) (xs : List ℕ) → place_of b ≡ 9 ∷ t ∷ k ∷ xs → Holds points inputs b → NoneBelow k → ((c : Bad) → rank_of c ≡ 9 → input_of c ≡ t → kind_of c ≡ k → Less_than (fields_of c) xs → ¬ Holds points inputs c) → IsFirstFault points inputs b
+    pub first_in : (b : Bad) (k : ℕ) (xs : List ℕ) → place_of b ≡ 9 ∷ t ∷ k ∷ xs → HoldsOfShape points inputs b → NoneBelow k → ((c : Bad) → rank_of c ≡ 9 → input_of c ≡ t → kind_of c ≡ k → Less_than (fields_of c) xs → ¬ HoldsOfShape points inputs c) → IsFirstOfShape points inputs b
     first_in b k xs is holds below same = first_of b 9 (t ∷ k ∷ xs) is clear holds earlier
       where
-        by_kind : (c : Bad) → rank_of c ≡ 9 → input_of c ≡ t → (kind_of c < k) ⊎ ((kind_of c ≡ k) × Less_than (fields_of c) xs) → ¬ Holds points inputs c
+        by_kind : (c : Bad) → rank_of c ≡ 9 → input_of c ≡ t → (kind_of c < k) ⊎ ((kind_of c ≡ k) × Less_than (fields_of c) xs) → ¬ HoldsOfShape points inputs c
         by_kind c r i (inl l) = below c r i l
         by_kind c r i (inr (e, l)) = same c r i e l
 
-        by_input : (c : Bad) → rank_of c ≡ 9 → (input_of c < t) ⊎ ((input_of c ≡ t) × Less_than (kind_of c ∷ fields_of c) (k ∷ xs)) → ¬ Holds points inputs c
+        by_input : (c : Bad) → rank_of c ≡ 9 → (input_of c < t) ⊎ ((input_of c ≡ t) × Less_than (kind_of c ∷ fields_of c) (k ∷ xs)) → ¬ HoldsOfShape points inputs c
         by_input c r (inl l) = (before (input_of c) l).none c r refl
         by_input c r (inr (i, l)) = by_kind c r i (lex (kind_of c) k (fields_of c) xs l)
 
-        earlier : (c : Bad) → rank_of c ≡ 9 → Less_than (rest_of c) (t ∷ k ∷ xs) → ¬ Holds points inputs c
+        earlier : (c : Bad) → rank_of c ≡ 9 → Less_than (rest_of c) (t ∷ k ∷ xs) → ¬ HoldsOfShape points inputs c
         earlier c r l = by_input c r (lex (input_of c) t (kind_of c ∷ fields_of c) (k ∷ xs) (subst (λ ys. Less_than ys (t ∷ k ∷ xs)) (placed_in c r) l))

@@ -1,5 +1,5 @@
 -- What is known of raw values once some kinds of fault are ruled out.
-use Rattle.std.specs.Prelude.{◌≡◌, ◌≢◌, ◌⊎◌, ◌↔◌, ℕ, ◌<◌, ◌≤◌, pos, List, length, take, Contains, Some, slice_get, slice_index_or, unsigned_abs, ◌≤ℤ◌, ◌<ℤ◌}
+use Rattle.std.specs.Prelude.{◌≡◌, ◌≢◌, ◌⊎◌, ◌↔◌, ⊤, ℕ, ◌<◌, ◌≤◌, ℤ, pos, List, length, take, map, sum, All, Contains, Some, slice_get, slice_index_or, unsigned_abs, ◌≤ℤ◌, ◌<ℤ◌}
 use Rattle.geo_orient.specs.declared.Point.{Point}
 use Rattle.edge_table.specs.declared.edge.Edge.{Edge}
 use Rattle.edge_table.specs.Edges.{edge, IsBefore, IsAscending}
@@ -8,8 +8,10 @@ use Rattle.tri_theory.specs.Triangulations.{AreJoined, Crosses, IsOutside, IsEmp
 use Rattle.tri_theory.specs.Inputs.{IsHullSegment}
 use Rattle.tri_check.specs.declared.raw.RawPair.{RawPair}
 use Rattle.tri_check.specs.declared.fault.Bad.{Bad}
+use Rattle.tri_check.specs.declared.fault.CheckFault.{CheckFault}
+use Rattle.tri_check.specs.declared.fault.CheckFault.TheVariants as fault
 use Rattle.tri_check.specs.Layouts.{Layout, AreInReach}
-use Rattle.tri_check.specs.Faults.{Holds, NamesPoint, place_of, IsCompletedInput, IsOpen}
+use Rattle.tri_check.specs.Faults.{HoldsOfShape, HoldsOfWeights, NamesPoint, place_of, IsEarlier, IsWeight, whole_sum, IsCompletedInput, IsOpen}
 
 -- ---- searches
 
@@ -173,13 +175,23 @@ input_of b = slice_index_or (place_of b) 1 0
 abbrev pub kind_of : Bad → ℕ
 kind_of b = slice_index_or (place_of b) 2 0
 
+-- the points or the listed pairs have the fault, and no earlier one
+pub record IsFirstOfShape (points : List Point) (inputs : List (List RawPair)) (b : Bad) : Type 0 where
+  pub holds : HoldsOfShape points inputs b
+  pub first : (c : Bad) → IsEarlier c b → ¬ HoldsOfShape points inputs c
+
+-- a refusal names the first fault of the points and the listed pairs; want of memory is free
+abbrev pub IsShapeRefusal : List Point → List (List RawPair) → CheckFault → Type 0
+IsShapeRefusal points inputs (fault.Bad b) = IsFirstOfShape points inputs b
+IsShapeRefusal points inputs fault.OutOfMemory = ⊤
+
 -- no fault of a kind below k is there
 pub record AreClear (points : List Point) (inputs : List (List RawPair)) (k : ℕ) : Type 0 where
-  pub none : (c : Bad) → rank_of c < k → ¬ Holds points inputs c
+  pub none : (c : Bad) → rank_of c < k → ¬ HoldsOfShape points inputs c
 
 -- this input has no fault
 pub record IsFaultless (points : List Point) (inputs : List (List RawPair)) (t : ℕ) : Type 0 where
-  pub none : (c : Bad) → rank_of c ≡ 9 → input_of c ≡ t → ¬ Holds points inputs c
+  pub none : (c : Bad) → rank_of c ≡ 9 → input_of c ≡ t → ¬ HoldsOfShape points inputs c
 
 -- the edges are what the input with this place stands for, a triangulation
 pub record IsInput (points : List Point) (inputs : List (List RawPair)) (t : ℕ) (edges : List Edge) : Type 0 where
@@ -207,3 +219,37 @@ pub record AreDone (points : List Point) (raw : List (List RawPair)) (layouts : 
   pub count : length layouts ≡ t
   pub inputs : (k : ℕ) (d : Layout) → k < t → IsInput points raw k (slice_index_or layouts k d).edges
   pub shared : (k : ℕ) (d : Layout) → k < t → (slice_index_or layouts k d).points ≡ points
+
+-- ---- weights
+
+-- the weight with this place
+abbrev pub weight_at : List ℤ → ℕ → ℤ
+weight_at weights t = slice_index_or weights t (pos 0)
+
+-- each weight is from 1 to 16
+abbrev pub AreInRange : List ℤ → Type 0
+AreInRange weights = (t : ℕ) → t < length weights → IsWeight (weight_at weights t)
+
+-- the weights have the fault, and no earlier one
+pub record IsFirstOfWeights (weights : List ℤ) (b : Bad) : Type 0 where
+  pub holds : HoldsOfWeights weights b
+  pub first : (c : Bad) → IsEarlier c b → ¬ HoldsOfWeights weights c
+
+-- a refusal names the first fault of the weights; want of memory is free
+abbrev pub IsWeightRefusal : List ℤ → CheckFault → Type 0
+IsWeightRefusal weights (fault.Bad b) = IsFirstOfWeights weights b
+IsWeightRefusal weights fault.OutOfMemory = ⊤
+
+-- the numbers are the first t weights, each from 1 to 16
+pub record AreNumbers (weights : List ℤ) (numbers : List ℕ) (t : ℕ) : Type 0 where
+  pub same : take t weights ≡ map pos numbers
+  pub positive : All (λ w. 1 ≤ w) numbers
+  pub small : All (λ w. w ≤ 16) numbers
+
+-- the weights have no fault, and these are their numbers
+pub record AreWeighed (weights : List ℤ) (numbers : List ℕ) : Type 0 where
+  pub same : weights ≡ map pos numbers
+  pub positive : All (λ w. 1 ≤ w) numbers
+  pub small : All (λ w. w ≤ 16) numbers
+  pub few : sum numbers ≤ 256
+  pub faultless : (b : Bad) → ¬ HoldsOfWeights weights b

@@ -1,6 +1,5 @@
 // The validator's steps, in the order of the faults.
 ghost use Rattle.std.specs.Prelude.{◌≡◌, ◌<◌, ◌≤◌, ℕ, length, sum, map, IfOk, IfErr, OnOk, IfSome, MatchOption};
-ghost use Rattle.tri_check.specs.Accepted.{IsRefusal};
 ghost use Rattle.tri_check.specs.Stages as stage;
 
 use crate::hull::hull;
@@ -35,7 +34,7 @@ fn count_pairs(inputs: &RawInputs) -> Option<u64>
 // Whether the numbers of points, inputs and pairs are within the limits. So many pairs that their number doesn't fit can't lie in memory.
 pub(crate) fn check_limits(points: &[Point], inputs: &RawInputs) -> Result<(), CheckFault>
     ensures ok { OnOk result (stage.AreLimited points.now inputs.now) }
-    ensures err { IfErr result (IsRefusal points.now inputs.now) }
+    ensures err { IfErr result (stage.IsShapeRefusal points.now inputs.now) }
 {
     if points.len() > MAX_POINTS {
         return Err(CheckFault::Bad(Bad::TooManyPoints(points.len() as u64)));
@@ -74,7 +73,7 @@ pub(crate) fn check_points(
 ) -> Result<(), CheckFault>
     requires { stage.AreLimited points.now inputs.now }
     ensures ok { OnOk result (stage.AreSound points.now inputs.now) }
-    ensures err { IfErr result (IsRefusal points.now inputs.now) }
+    ensures err { IfErr result (stage.IsShapeRefusal points.now inputs.now) }
 {
     if let Some(i) = out_of_reach(points) {
         return Err(CheckFault::Bad(Bad::CoordinateRange(i)));
@@ -108,7 +107,7 @@ fn check_input(
     requires within { t < length inputs.now }
     requires before { (s : ℕ) → s < t → stage.IsFaultless points.now inputs.now s }
     ensures ok { IfOk result (stage.IsInput points.now inputs.now t) }
-    ensures err { IfErr result (IsRefusal points.now inputs.now) }
+    ensures err { IfErr result (stage.IsShapeRefusal points.now inputs.now) }
 {
     let number = t as u32;
     let pairs = inputs.at(t).as_slice();
@@ -146,7 +145,7 @@ pub(crate) fn check_inputs(
 ) -> Result<Vec<Triang>, CheckFault>
     requires { stage.AreSound points.now.value inputs.now }
     ensures ok { IfOk result (λ v. stage.AreDone points.now.value inputs.now v.items (length inputs.now)) }
-    ensures err { IfErr result (IsRefusal points.now.value inputs.now) }
+    ensures err { IfErr result (stage.IsShapeRefusal points.now.value inputs.now) }
 {
     let list = points.as_slice();
     let hull = hull(alloc, list)?;

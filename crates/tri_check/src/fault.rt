@@ -13,7 +13,7 @@ pub enum CheckFault {
     OutOfMemory,
 }
 
-/// What is wrong with raw values, in the order in which it is looked for. From `BadVertex` on all is looked for in input 0, then in input 1, and so on. Of one kind the least in the order of the fields comes first.
+/// What is wrong with raw values, in the order in which it is looked for. From `BadVertex` to `OpenSide` all is looked for in input 0, then in input 1, and so on; the weights are looked at after all inputs. Of one kind the least in the order of the fields comes first.
 #[derive(Clone, Copy, Debug, PartialEq, Eq)]
 pub enum Bad {
     /// So many points are more than 16,384.
@@ -43,6 +43,10 @@ pub enum Bad {
     LonePoint(u32, u32),
     /// In the input, the member lacks an empty triangle on a side on which points lie.
     OpenSide(u32, Edge),
+    /// The weight of the input isn't from 1 to 16.
+    WeightRange(u32),
+    /// The weights have this sum, which is over 256.
+    WeightSum(u64),
 }
 
 impl From<AllocError> for CheckFault {

@@ -1,24 +1,28 @@
 // An instance: a name, points, and triangulations of them as inputs.
-ghost use Rattle.std.specs.Prelude.{◌≡◌, ◌<◌, ◌↔◌, length, slice_get, Some, IsTrue, IfOk, IfErr};
+ghost use Rattle.std.specs.Prelude.{◌≡◌, ◌<◌, ◌≤◌, ◌↔◌, length, sum, slice_get, Some, IsTrue, IfOk, IfErr};
 ghost use Rattle.tri_theory.specs.Triangulations.{IsSegment};
-ghost use Rattle.tri_check.specs.Problems.{IsProblem};
+ghost use Rattle.tri_theory.specs.Copies.{copy_of};
+ghost use Rattle.tri_check.specs.Problems.{IsProblem, AreFewWeights};
 ghost use Rattle.tri_check.specs.Accepted.{IsAccepted, IsRefusal};
 
 use crate::check::{check_inputs, check_limits, check_points};
 use crate::network::blocker_of;
+use crate::weights::{check_weights, owner, sum_of};
 use crate::{CheckFault, PointList, RawInstance, Triang, Uid};
 use edge_table::Edge;
 use geo_orient::Point;
+use item_list::ItemList;
 use std::alloc::Global;
 use std::marker::Model;
 use std::sync::Arc;
 
-/// An instance, seen as its uid, its points and the edges of each input.
+/// An instance, seen as its uid, its points, the edges of each input and the weight of each: how often a plan counts its rounds.
 #[derive(Drop)]
 pub struct Instance {
     uid: Uid,
     points: Arc<PointList>,
     inputs: Vec<Triang>,
+    weights: ItemList<u32>,
 }
 
 impl Model for Instance {
@@ -26,9 +30,9 @@ impl Model for Instance {
 
     ghost Value = { Problem };
 
-    ghost view = { λ i. record { uid = i.uid; points = i.points.value; inputs = all_edges i.inputs.items } };
+    ghost view = { λ i. record { uid = i.uid; points = i.points.value; inputs = all_edges i.inputs.items; weights = i.weights } };
 
-    ghost invariant = { λ i. AreInputs i.points.value i.inputs.items };
+    ghost invariant = { λ i. AreInputs i.points.value i.inputs.items i.weights };
 }
 
 fn triangulation_at(inputs: &[Triang], i: usize) -> &Triang
@@ -41,24 +45,28 @@ fn triangulation_at(inputs: &[Triang], i: usize) -> &Triang
 impl Instance {
     /// The instance of raw values, or what is wrong with them. For an instance, time grows with the number of points and of members, and with their logarithm. Only what isn't shown to be one at once is searched for its first fault, and then time grows with the square of the number of points and of the members of an input, and for each member with the number of points.
     pub fn check(alloc: Global, raw: RawInstance) -> Result<Arc<Self>, CheckFault>
-        ensures ok { IfOk result (λ i. IsAccepted raw.uid raw.points raw.inputs i.value) }
-        ensures bad { IfErr result (IsRefusal raw.points raw.inputs) }
+        requires { length raw.weights ≡ length raw.inputs }
+        ensures ok { IfOk result (λ i. IsAccepted raw.uid raw.points raw.inputs raw.weights i.value) }
+        ensures bad { IfErr result (IsRefusal raw.points raw.inputs raw.weights) }
     {
         let RawInstance {
             uid,
             points,
             inputs: listed,
+            weights,
         } = raw;
         check_limits(points.as_slice(), &listed)?;
         check_points(alloc, points.as_slice(), &listed)?;
         let points = Arc::new(alloc, points)?;
         let inputs = check_inputs(alloc, &points, &listed)?;
+        let weights = check_weights(alloc, weights.as_slice())?;
         Ok(Arc::new(
             alloc,
             Instance {
                 uid,
                 points,
                 inputs,
+                weights,
             },
         )?)
     }
@@ -73,6 +81,7 @@ impl Instance {
     pub fn count(&self) -> u32
         ensures count { result ≡ length self.now.points }
         ensures problem { IsProblem self.now.points self.now.inputs }
+        ensures weights { AreFewWeights self.now.inputs self.now.weights }
     {
         self.points.len() as u32
     }
@@ -97,6 +106,33 @@ impl Instance {
         ensures edges { slice_get self.now.inputs t ≡ Some result.now.edges }
     {
         triangulation_at(&self.inputs, t as usize)
+    }
+
+    /// The weight of an input, from 1 to 16: each of its rounds counts so often in a total.
+    pub fn weight(&self, t: u32) -> u32
+        requires { t < length self.now.inputs }
+        ensures weight { slice_get self.now.weights t ≡ Some result }
+        ensures positive { 1 ≤ result }
+        ensures small { result ≤ 16 }
+    {
+        *self.weights.at(t as usize)
+    }
+
+    /// The number of copies, at most 256: each input stands for as many as its weight says.
+    pub fn copies(&self) -> u32
+        ensures copies { result ≡ sum self.now.weights }
+        ensures few { result ≤ 256 }
+    {
+        sum_of(self.weights.as_slice()) as u32
+    }
+
+    /// The input that a copy is of. The copies are numbered from 0: those of input 0, then those of input 1, and so on. Time grows with the number of inputs.
+    pub fn copy_of(&self, c: u32) -> u32
+        requires { c < sum self.now.weights }
+        ensures copy { result ≡ copy_of self.now.weights c }
+        ensures input { result < length self.now.inputs }
+    {
+        owner(self.weights.as_slice(), c)
     }
 
     /// Whether no point lies strictly between the ends, in time linear in the number of points.

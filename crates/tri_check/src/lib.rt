@@ -14,10 +14,11 @@ mod raw;
 mod table;
 mod triang;
 mod uid;
+mod weights;
 
 pub use fault::{Bad, CheckFault};
 pub use instance::Instance;
-pub use raw::{PairList, PointList, RawInputs, RawInstance, RawPair};
+pub use raw::{PairList, PointList, RawInputs, RawInstance, RawPair, WeightList};
 pub use triang::Triang;
 pub use uid::Uid;
 

@@ -16,6 +16,7 @@ pub struct RawInstance {
     pub uid: Uid,
     pub points: PointList,
     pub inputs: RawInputs,
+    pub weights: WeightList,
 }
 
 /// A list of points. A point is named by its place, from 0.
@@ -26,3 +27,6 @@ pub type PairList = ItemList<RawPair>;
 
 /// The inputs, each as its list of pairs.
 pub type RawInputs = ItemList<PairList>;
+
+/// Whole numbers that are to be the weights of the inputs, one for each, in their order.
+pub type WeightList = ItemList<i64>;

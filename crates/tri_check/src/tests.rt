@@ -24,7 +24,9 @@ fn raw(
         list.push(*p)?;
     }
     let mut inputs = RawInputs::make(alloc);
+    let mut weights = WeightList::make(alloc);
     if let Some(pairs) = pairs {
+        weights.push(1)?;
         let mut input = PairList::make(alloc);
         for (a, b) in pairs {
             input.push(RawPair { a: *a, b: *b })?;
@@ -35,6 +37,7 @@ fn raw(
         uid: Uid::of(alloc, "small")?,
         points: list,
         inputs,
+        weights,
     })
 }
 
