@@ -9,6 +9,7 @@ mod mem_store;
 mod sink;
 mod std_sink;
 mod store;
+mod threads;
 
 pub use bytes::Bytes;
 pub use dir_store::DirStore;

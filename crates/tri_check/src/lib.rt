@@ -12,6 +12,7 @@ mod numbers;
 mod points;
 mod raw;
 mod table;
+mod threads;
 mod triang;
 mod uid;
 mod weights;
