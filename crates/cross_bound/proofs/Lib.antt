@@ -1,6 +1,5 @@
 pub mod Bounds
 pub mod Counted
-pub mod Fewness
 pub mod FirstGreatest
 pub mod Starts
 pub mod WalkCounts

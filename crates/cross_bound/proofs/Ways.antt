@@ -1,15 +1,14 @@
 -- What the code says of the members that a segment crosses, and what the walk says.
 use Rattle.std.proofs.Common.{◌≡◌, inl, inr, ℕ, suc, ◌+◌, ◌^◌, ◌<◌, ◌≤◌, List, ◌∷◌, length, Contains, ap, arith}
-use Rattle.std.proofs.lemmas.List.Sums.{count_by-le-length}
 use Rattle.geo_orient.specs.declared.Point.{Point}
 use Rattle.edge_table.specs.declared.edge.Edge.{Edge}
 use Rattle.tri_theory.specs.Points.{ArePlaced}
 use Rattle.tri_theory.specs.Triangulations.{IsEmptyTriangle, IsSegment, IsTriangulation}
-use Rattle.tri_theory.specs.Crossings.{crosses, crossings}
+use Rattle.tri_theory.specs.Crossings.{crossings}
 use Rattle.tri_theory.proofs.Lists.{tri_to, tri_from}
 use Rattle.cross_bound.specs.declared.walk.Way.{Way}
 use Rattle.cross_bound.specs.Walks.{IsCrossed, IsFirst, IsNext}
-use Rattle.cross_bound.proofs.Fewness.{few_edges, few_counted}
+use Rattle.crossing_law.proofs.Fewness.{crossings_fit}
 use Rattle.cross_bound.proofs.Walking as walking
 use Rattle.cross_bound.proofs.WalkCounts as counts
 
@@ -63,16 +62,8 @@ module _ (points : List Point) (P : ArePlaced points) (T : List Edge) (I : IsTri
           let h : length rest ≡ 0 = ap length (counts.at_end points P T I e s (w.left, w.right) rest p (tri_to points P T w.left w.right e.1 t)) in
           omega (arith, h, l)
 
-  crossings_fit : length points < 2 ^ 64 → crossings points T e < 2 ^ 128
-  crossings_fit l =
-      few_counted (length points) (crossings points T e) l
-      (let h = count_by-le-length (λ f. crosses points e f) T in let m = few_edges (length points) T I.ascending (λ f i. small f i) in omega (arith, h, m))
-    where
-      small : (f : Edge) → Contains T f → (f.0 < length points) × (f.1 < length points)
-      small f i = let g = I.segments f i in let a = g.low_first in let b = g.in_range in (omega (arith, a, b), b)
-
-  pub count_fits : (w m : Way) (k : ℕ) → length points < 2 ^ 64 → IsCounted points T e w k → IsNext points T e w m → k + 1 < 2 ^ 128
-  count_fits w m k l c n = let h = counted_below w m k c n in let f = crossings_fit l in omega (arith, h, f)
+  pub count_fits : (w m : Way) (k : ℕ) → length points ≤ 16384 → IsCounted points T e w k → IsNext points T e w m → k + 1 < 2 ^ 32
+  count_fits w m k l c n = let h = counted_below w m k c n in let f = crossings_fit points T e I l in omega (arith, h, f)
 
 pub counted_next : (points : List Point) (T : List Edge) (e : Edge) (w m : Way) (k : ℕ) → IsCounted points T e w k → IsNext points T e w m → IsCounted points T e m (k + 1)
 counted_next points T e w m k c n = record { walk = λ P I s. by_walk P I s (c.walk P I s) }

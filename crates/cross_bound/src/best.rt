@@ -22,7 +22,7 @@ pub enum Side {
 pub struct Best {
     pub from: Side,
     pub edge: Edge,
-    pub count: u128,
+    pub count: u32,
 }
 
 // The best so far, with one more edge tried: the earlier one of two with as many crossings.

@@ -19,7 +19,7 @@ pub enum CrossBound {
     Crossed {
         from: Side,
         edge: Edge,
-        count: u128,
+        count: u32,
         lower: u32,
     },
 }

@@ -10,7 +10,7 @@ use edge_table::Edge;
 use flip_mesh::Mesh;
 
 /// How many members of a mesh cross a segment of the points. It walks along the segment from triangle to triangle: with m edges it takes O(log m) steps for each of them, and for each member that it turns over at the segment's low end.
-pub fn crossings(mesh: &Mesh, e: Edge) -> u128
+pub fn crossings(mesh: &Mesh, e: Edge) -> u32
     requires { IsSegment mesh.now.points e }
     ensures { result ≡ crossings mesh.now.points mesh.now.edges e }
 {
@@ -22,7 +22,7 @@ pub fn crossings(mesh: &Mesh, e: Edge) -> u128
 }
 
 // How many binary digits a number has, and of 0 none.
-pub(crate) fn digits(n: u128) -> u32
+pub(crate) fn digits(n: u32) -> u32
     ensures { result ≡ digits n }
 {
     let mut rest = n;

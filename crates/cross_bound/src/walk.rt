@@ -88,14 +88,14 @@ fn next_way(mesh: &Mesh, e: Edge, way: Way) -> Option<Way>
 }
 
 // How many members the segment crosses, from the first one on.
-pub(crate) fn walk(mesh: &Mesh, e: Edge, first: Way) -> u128
+pub(crate) fn walk(mesh: &Mesh, e: Edge, first: Way) -> u32
     requires segment { IsSegment mesh.now.points e }
     requires first { IsFirst mesh.now.points mesh.now.edges e first }
     ensures { result ≡ crossings mesh.now.points mesh.now.edges e }
 {
-    let _ = mesh.points().len();
+    let _ = mesh.points();
     let mut way = first;
-    let mut count: u128 = 1;
+    let mut count: u32 = 1;
     while let Some(next) = next_way(mesh, e, way) {
         way = next;
         count += 1;

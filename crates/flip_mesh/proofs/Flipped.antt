@@ -242,7 +242,7 @@ module _ (points : List Point) (old : List Side) (M : IsFaithful points old) (a 
 
     pub after_turn : IsFaithful points new
     after_turn = record {
-      triangulated = record { in_reach = M.triangulated.in_reach; placed = P; triangulation = next };
+      triangulated = record { few = M.triangulated.few; in_reach = M.triangulated.in_reach; placed = P; triangulation = next };
       ordered = t.ordered;
       apart = λ u h. apart_new (side u u h.apex) h.there refl;
       both = λ u v h. both_new (side u v h.apex) h.there;

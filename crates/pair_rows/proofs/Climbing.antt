@@ -1,14 +1,13 @@
 -- A lower bound begins as the bound by crossings, and each formula that is refuted raises it. None is raised without end.
 use Rattle.std.proofs.Common.{◌≡◌, ◌∙◌, sym, ap, refl, subst, ℕ, ◌+◌, ◌*◌, ◌^◌, ◌<◌, ◌≤◌, Bool, List, [], length, Contains, Some, slice_get, arith}
 use Rattle.std.proofs.Math.Nat.{mul-le-mul_right}
-use Rattle.std.proofs.lemmas.List.Sums.{count_by-le-length}
 use Rattle.std.proofs.lemmas.Option.{get_or_from_slice_get}
 use Rattle.geo_orient.specs.declared.Point.{Point}
 use Rattle.edge_table.specs.declared.edge.Edge.{Edge}
 use Rattle.edge_table.specs.Edges.{edge}
 use Rattle.tri_theory.specs.Points.{ArePlaced, IsLeft}
 use Rattle.tri_theory.specs.Triangulations.{IsTriangulation, IsSegment}
-use Rattle.tri_theory.specs.Crossings.{crosses, crossings}
+use Rattle.tri_theory.specs.Crossings.{crossings}
 use Rattle.crossing_law.specs.Digits.{digits}
 use Rattle.crossing_law.proofs.Counts.{digits_at_most}
 use Rattle.bound_law.specs.Bounds.{input_at}
@@ -25,7 +24,7 @@ use Rattle.cross_bound.specs.declared.bound.CrossBound.TheVariants.{Same, Crosse
 use Rattle.cross_bound.specs.Best.{IsFirstGreatest}
 use Rattle.cross_bound.specs.Bounds.{edges_of_both, crossed_by_other, IsCrossBound}
 use Rattle.cross_bound.proofs.Bounds.{found_in}
-use Rattle.cross_bound.proofs.Fewness.{few_edges, few_counted}
+use Rattle.crossing_law.proofs.Fewness.{crossings_fit}
 use Rattle.pair_rows.specs.declared.row.Evidence.{Evidence}
 use Rattle.pair_rows.specs.declared.row.Evidence.TheVariants.{Crosses, Refuted}
 use Rattle.pair_rows.specs.Rows.{OfBuilt, least_rounds}
@@ -76,22 +75,14 @@ pub equal_are_no_rounds : (points : List Point) (A B : List Edge) → A ≡ B �
 equal_are_no_rounds points A B same Same is = omega arith
 equal_are_no_rounds points A B same (Crossed from e count lower) is = absurd (is.0 same)
 
-crossings_fit : (points : List Point) (T : List Edge) (e : Edge) → IsTriangulation points T → length points ≤ 16384 → crossings points T e < 2 ^ 128
-crossings_fit points T e N few =
-    few_counted (length points) (crossings points T e) (omega (arith, few))
-    (let h = count_by-le-length (λ f. crosses points e f) T in let m = few_edges (length points) T N.ascending (λ f i. ends f i) in omega (arith, h, m))
-  where
-    ends : (f : Edge) → Contains T f → (f.0 < length points) × (f.1 < length points)
-    ends f i = let g = N.segments f i in let a = g.low_first in let b = g.in_range in (omega (arith, a, b), b)
-
 -- the bound by crossings of few points is low
-pub bound_is_low : (points : List Point) (A B : List Edge) (from : Side) (e : Edge) (count lower : ℕ) → IsTriangulation points A → IsTriangulation points B → length points ≤ 16384 → IsCrossBound points A B (Crossed from e count lower) → lower ≤ 128
+pub bound_is_low : (points : List Point) (A B : List Edge) (from : Side) (e : Edge) (count lower : ℕ) → IsTriangulation points A → IsTriangulation points B → length points ≤ 16384 → IsCrossBound points A B (Crossed from e count lower) → lower ≤ 32
 bound_is_low points A B from e count lower N M few (differ, greatest, counted, long) =
-    let d = digits_at_most (crossed_by_other points A B (from, e)) 128 (by_side from) in
+    let d = digits_at_most (crossed_by_other points A B (from, e)) 32 (by_side from) in
     let l : lower ≡ digits (crossed_by_other points A B (from, e)) = long ∙ ap digits counted in
     omega (arith, d, l)
   where
-    by_side : (side : Side) → crossed_by_other points A B (side, e) < 2 ^ 128
+    by_side : (side : Side) → crossed_by_other points A B (side, e) < 2 ^ 32
     by_side First = crossings_fit points B e M few
     by_side Second = crossings_fit points A e N few
 

@@ -12,7 +12,7 @@ pub enum Evidence {
     /// The lower bound is 0.
     Nothing,
     /// An edge of the first input or of the second, and how many members of the other one cross it. The lower bound is the number of binary digits of the count.
-    Crosses { from: Side, edge: Edge, count: u128 },
+    Crosses { from: Side, edge: Edge, count: u32 },
     /// A log that refutes the formula of `k` rounds. The lower bound is one more.
     Refuted { k: u32, log: Log },
 }

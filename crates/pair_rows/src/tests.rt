@@ -110,7 +110,7 @@ fn row(
 }
 
 // Whether the row is of input 0 and j, and its lower bound comes from this many crossings of 0-2.
-fn crosses(rt: &impl Abort, row: &Row, j: u32, lower: u32, members: u128) -> bool {
+fn crosses(rt: &impl Abort, row: &Row, j: u32, lower: u32, members: u32) -> bool {
     let diagonal = Edge::of(0, 2).expect(rt, "two points");
     let shown = match &row.evidence {
         Evidence::Crosses { from, edge, count } => {

@@ -99,6 +99,7 @@ module _ (es : List Edge) (i : ℕ) (old new : FlipTrack) (W : IsPartway es i ol
           ∙ (ap (joined W.flips_so_far) (sym goes_on) ∙ (ap (λ l. joined W.flips_so_far (flips_in_turn old.points new.end l)) (sym (next_ones e h k)) ∙ W.found));
       spare = (let a = A.spare in let b = W.spare in omega arith);
       triangulated = record {
+        few = W.triangulated.few;
         in_reach = W.triangulated.in_reach;
         placed = W.triangulated.placed;
         triangulation = flips_keep_triangulations old.points new.end next.end e f W.triangulated.placed W.triangulated.triangulation here;

@@ -1,4 +1,4 @@
-use Rattle.std.proofs.Common.{◌∙◌, ◌<◌, ◌^◌, length, ap, subst, arith}
+use Rattle.std.proofs.Common.{arith}
 use Rattle.cross_bound.proofs.Ways.{counted_first, counted_crossed, counted_below, counted_next, counted_end, count_fits}
 use Rattle.cross_bound.proofs.walk.walk.Goals as goal
 
@@ -12,8 +12,7 @@ next_way-requires-clause-crossed c =
 pub overflow_add-count : goal.overflow_add-count
 overflow_add-count c =
     let t = c.points.ensures.triangulation in
-    let few : length c.args.mesh.now.points < 2 ^ 64 = subst (λ n. n < 2 ^ 64) (c.len.ensures ∙ ap length (c.deref.ensures ∙ c.points.ensures.points)) c.len.type_inv in
-    let h = count_fits c.args.mesh.now.points t.placed c.args.mesh.now.edges t.triangulation c.args.e c.requires.segment c.loop-next.way c.in-Some.next c.loop-next.count few c.loop-next.invariant c.in-Some.ensures.some in
+    let h = count_fits c.args.mesh.now.points t.placed c.args.mesh.now.edges t.triangulation c.args.e c.requires.segment c.loop-next.way c.in-Some.next c.loop-next.count t.few c.loop-next.invariant c.in-Some.ensures.some in
     omega (arith, h)
 
 pub loop-next-smaller : goal.loop-next-smaller
