@@ -39,11 +39,7 @@ fn fans(alloc: Global) -> Result<RawInputs, AllocError> {
 }
 
 fn pentagon(alloc: Global) -> Result<Arc<Instance>, CheckFault> {
-    let raw = RawInstance {
-        uid: Uid::of(alloc, "pentagon")?,
-        points: corners(alloc)?,
-        inputs: fans(alloc)?,
-    };
+    let raw = RawInstance::unweighted(alloc, Uid::of(alloc, "pentagon")?, corners(alloc)?, fans(alloc)?)?;
     Instance::check(alloc, raw)
 }
 

@@ -1,4 +1,6 @@
 // The square with ample memory: its diagonal flips there and back.
+ghost use Rattle.std.specs.Prelude.{◌≡◌, length, IfOk};
+
 use super::*;
 use edge_table::Edge;
 use geo_orient::Point;
@@ -11,7 +13,9 @@ fn edge(rt: &impl Abort, a: u32, b: u32) -> Edge {
     Edge::of(a, b).expect(rt, "two points")
 }
 
-fn raw_square(alloc: Global) -> Result<RawInstance, AllocError> {
+fn raw_square(alloc: Global) -> Result<RawInstance, AllocError>
+    ensures { IfOk result (λ raw. length raw.weights ≡ length raw.inputs) }
+{
     let mut points = PointList::make(alloc);
     points.push(Point { x: 0, y: 0 })?;
     points.push(Point { x: 2, y: 0 })?;
@@ -21,11 +25,7 @@ fn raw_square(alloc: Global) -> Result<RawInstance, AllocError> {
     input.push(RawPair { a: 0, b: 2 })?;
     let mut inputs = RawInputs::make(alloc);
     inputs.push(input)?;
-    Ok(RawInstance {
-        uid: Uid::of(alloc, "square")?,
-        points,
-        inputs,
-    })
+    RawInstance::unweighted(alloc, Uid::of(alloc, "square")?, points, inputs)
 }
 
 // Flips an edge that is to have this image.

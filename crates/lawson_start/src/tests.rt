@@ -42,11 +42,7 @@ fn instance(alloc: Global, points: PointList, inputs: RawInputs) -> Result<Arc<I
     let uid = Uid::of(alloc, "circle")?;
     Ok(Instance::check(
         alloc,
-        RawInstance {
-            uid,
-            points,
-            inputs,
-        },
+        RawInstance::unweighted(alloc, uid, points, inputs)?,
     )?)
 }
 

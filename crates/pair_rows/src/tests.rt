@@ -43,11 +43,7 @@ fn polygon(alloc: Global, corners: &[Point]) -> Result<Option<Arc<Instance>>, Al
     inputs.push(fan(alloc, count, 0)?)?;
     inputs.push(fan(alloc, count, 1)?)?;
     inputs.push(fan(alloc, count, 0)?)?;
-    let raw = RawInstance {
-        uid: Uid::of(alloc, "polygon")?,
-        points,
-        inputs,
-    };
+    let raw = RawInstance::unweighted(alloc, Uid::of(alloc, "polygon")?, points, inputs)?;
     Ok(Instance::check(alloc, raw).ok())
 }
 

@@ -17,7 +17,7 @@ use Rattle.tri_theory.specs.Triangulations.{IsTriangulation}
 use Rattle.tri_theory.specs.Flips.{FlipsTo, Flips, IsFlip}
 use Rattle.tri_theory.proofs.Proved.{images_are_unique}
 use Rattle.tri_check.specs.Layouts.{Layout}
-use Rattle.tri_check.specs.Problems.{Problem, IsProblem}
+use Rattle.tri_check.specs.Problems.{Problem, IsProblem, AreFewWeights}
 use Rattle.flip_list_law.specs.declared.Flip.{Flip}
 use Rattle.flip_list_law.specs.FlipLists.{IsFlipList, round_count, follow}
 use Rattle.flip_list_law.specs.Laws.{Replays}
@@ -29,7 +29,7 @@ use Rattle.plan_law.specs.Images.{image_of, flippable, after_flip}
 use Rattle.tri_theory.specs.Rounds.{AreWeights, weighted_sum}
 use Rattle.plan_law.specs.Plans.{IsInstance, Plan, IsPlanOf, plan_total, with_flip, followed, followed_all, last_moves, moves}
 use Rattle.plan_law.proofs.Proved.{images_are_found, flips_lead_on, flippable_edges, plans_have_schedules, centres_are_triangulations, following_keeps_plans}
-use Rattle.plan_core.specs.HeldPlans.{LeadsTo, HasSchedules, TotalsAfter, weights_of, lists_of, list_at}
+use Rattle.plan_core.specs.HeldPlans.{LeadsTo, HasSchedules, TotalsAfter, lists_of, list_at}
 use Rattle.plan_core.specs.States.{plan_of, IsHeld}
 use Rattle.plan_core.specs.Steps.{IsLed, IsFollowed, IsRoomier}
 
@@ -114,16 +114,6 @@ last_moves_push [] flips = refl
 last_moves_push ([] ∷ lists) flips = last_moves_push lists flips
 last_moves_push ((g ∷ gs) ∷ lists) flips = ap (λ ms. last_moves ((g ∷ gs) ∷ []) ++ ms) (last_moves_push lists flips)
 
--- ---- weights of 1
-pub unit_weights : (inputs : List (List Edge)) → AreWeights inputs (replicate (length inputs) 1)
-unit_weights inputs = record { one_each = length-replicate (length inputs) 1; positive = All-replicate (λ w. 1 ≤ w) (length inputs) 1 (omega arith) }
-
-unit_sum : (n : ℕ) (ns : List ℕ) → n ≡ length ns → weighted_sum (replicate n 1) ns ≡ sum ns
-unit_sum zero [] e = refl
-unit_sum zero (m ∷ ns) e = absurd (omega arith)
-unit_sum (suc n) [] e = absurd (omega arith)
-unit_sum (suc n) (m ∷ ns) e = let again = unit_sum n ns (omega arith) in omega (arith, again, sum_by-cons (λ k. k) m ns)
-
 -- ---- a held plan
 module _ (problem : Problem) (centre : Layout) (tracks : List FlipTrack) (H : IsHeld problem centre tracks) where
   abbrev plan : Plan
@@ -153,19 +143,11 @@ module _ (problem : Problem) (centre : Layout) (tracks : List FlipTrack) (H : Is
   is_followed e f h =
       ap (λ r. elim r as (λ _. Option Plan) [ Some g ↦ Some (with_flip plan (flip e g)) | None ↦ None ]) ((images_are_found problem.points centre.edges e f instance.placed triangulated).1 h)
 
-  -- the total
-  pub total_is : (n : ℕ) → n ≡ sum (map round_count (lists_of tracks)) → n ≡ plan_total plan
-  total_is n e = e ∙ sym (unit_sum (length problem.inputs) (map round_count (lists_of tracks)) (sym (length-map (lists_of tracks) round_count ∙ (length-map tracks (λ (t : FlipTrack). t.flips) ∙ as_many))))
-
   -- the total once an edge is followed
   pub totals_after : (e : Edge) (n : ℕ) → Flips problem.points centre.edges e
-      → ((f : Edge) → All (λ (track : FlipTrack). FlipsTo track.points track.end e f) tracks → n ≡ sum (map round_count (map (λ flips. follow flips (flip e f)) (lists_of tracks))))
+      → ((f : Edge) → All (λ (track : FlipTrack). FlipsTo track.points track.end e f) tracks → n ≡ weighted_sum problem.weights (map round_count (map (λ flips. follow flips (flip e f)) (lists_of tracks))))
       → TotalsAfter problem.points plan e n
-  totals_after e n (f, h) sums =
-      (with_flip plan (flip e f), is_followed e f h, sums f (all_flip_to problem.points centre.edges e f h problem.inputs tracks H.lead) ∙ sym (unit_sum (length problem.inputs) (map round_count (map (λ flips. follow flips (flip e f)) (lists_of tracks))) long))
-    where
-      long : length problem.inputs ≡ length (map round_count (map (λ flips. follow flips (flip e f)) (lists_of tracks)))
-      long = sym (length-map (map (λ flips. follow flips (flip e f)) (lists_of tracks)) round_count ∙ (length-map (lists_of tracks) (λ flips. follow flips (flip e f)) ∙ (length-map tracks (λ (t : FlipTrack). t.flips) ∙ as_many)))
+  totals_after e n (f, h) sums = (with_flip plan (flip e f), is_followed e f h, sums f (all_flip_to problem.points centre.edges e f h problem.inputs tracks H.lead))
 
   -- the edges that flip, as they are listed
   pub moves_are : (list : List Edge) (made : List (List Edge)) → AreFlippable problem.points centre.edges list → made ≡ map (λ e. e ∷ []) list ++ last_moves (lists_of tracks) → made ≡ moves problem.points plan
@@ -211,7 +193,7 @@ module _ (problem : Problem) (centre : Layout) (tracks : List FlipTrack) (H : Is
 
     plan_is : plan_of problem next.edges new ≡ with_flip plan (flip e f)
     plan_is =
-        ap₂ (λ c ls. record { centre = c; weights = weights_of problem; lists = ls }) (((flips_lead_on problem.points centre.edges next.edges (flip e f) instance.placed triangulated).0 here).1) (lists problem.inputs tracks new H.lead Z)
+        ap₂ (λ c ls. record { centre = c; weights = problem.weights; lists = ls }) (((flips_lead_on problem.points centre.edges next.edges (flip e f) instance.placed triangulated).0 here).1) (lists problem.inputs tracks new H.lead Z)
 
     pub follows : followed problem.points plan e ≡ Some (plan_of problem next.edges new)
     follows = is_followed e f here.flips ∙ ap Some (sym plan_is)
@@ -222,6 +204,7 @@ module _ (problem : Problem) (centre : Layout) (tracks : List FlipTrack) (H : Is
     pub held_on : IsHeld problem next new
     held_on = record {
       is_problem = H.is_problem;
+      weighed = H.weighed;
       of_points = P ∙ H.of_points;
       lead = lead problem.inputs tracks new H.lead Z;
       is_plan = (following_keeps_plans problem.points problem.inputs plan (plan_of problem next.edges new) (e ∷ []) instance H.is_plan
@@ -231,19 +214,21 @@ module _ (problem : Problem) (centre : Layout) (tracks : List FlipTrack) (H : Is
   pub held_with_room : (new : List FlipTrack) → AllZip IsRoomier tracks new → IsHeld problem centre new
   held_with_room new Z = record {
     is_problem = H.is_problem;
+    weighed = H.weighed;
     of_points = H.of_points;
     lead = roomier_lead problem.points centre.edges problem.inputs tracks new H.lead Z;
-    is_plan = subst (λ ls. IsPlanOf problem.points problem.inputs (record { centre = centre.edges; weights = weights_of problem; lists = ls })) (sym (roomier_lists tracks new Z)) H.is_plan;
+    is_plan = subst (λ ls. IsPlanOf problem.points problem.inputs (record { centre = centre.edges; weights = problem.weights; lists = ls })) (sym (roomier_lists tracks new Z)) H.is_plan;
   }
 
 -- tracks that lead from the inputs to a centre are a plan
-pub opening_held : (problem : Problem) (centre : Layout) (tracks : List FlipTrack) → IsProblem problem.points problem.inputs → centre.points ≡ problem.points → AllZip (LeadsTo problem.points centre.edges) problem.inputs tracks → All IsLed tracks
+pub opening_held : (problem : Problem) (centre : Layout) (tracks : List FlipTrack) → IsProblem problem.points problem.inputs → AreFewWeights problem.inputs problem.weights → centre.points ≡ problem.points → AllZip (LeadsTo problem.points centre.edges) problem.inputs tracks → All IsLed tracks
     → IsHeld problem centre tracks
-opening_held problem centre tracks I P Z L = record {
+opening_held problem centre tracks I W P Z L = record {
   is_problem = I;
+  weighed = W;
   of_points = P;
   lead = Z;
-  is_plan = record { weighed = unit_weights problem.inputs; lead = lists_lead problem.points centre.edges problem.inputs tracks Z (λ k track h. subst IsLed (get_or_from_slice_get tracks k track track h) (L k track (slice_get_within tracks k track h))) };
+  is_plan = record { weighed = W.weighed; lead = lists_lead problem.points centre.edges problem.inputs tracks Z (λ k track h. subst IsLed (get_or_from_slice_get tracks k track track h) (L k track (slice_get_within tracks k track h))) };
 }
 
 -- one track that leads from the only input

@@ -24,7 +24,7 @@ use Rattle.plan_law.specs.PlanLaws.{Swaps}
 use Rattle.plan_law.proofs.Proved.{flips_lead_on, flips_are_found, swaps_keep_plans}
 use Rattle.plan_core.specs.declared.fault.SwapFault.{SwapFault}
 use Rattle.plan_core.specs.declared.fault.SwapFault.TheVariants.{Round, OtherEnd, NotFewer, OutOfMemory}
-use Rattle.plan_core.specs.HeldPlans.{LeadsTo, lists_of, list_at, weights_of}
+use Rattle.plan_core.specs.HeldPlans.{LeadsTo, lists_of, list_at}
 use Rattle.plan_core.specs.States.{plan_of, IsHeld}
 use Rattle.plan_core.specs.Steps.{IsTrackOf, IsTrackFor}
 use Rattle.plan_core.specs.SwapFaults.{IsSwapFault, IsLeadFault, IsSwapped, IsNotFewer, Saves}
@@ -100,7 +100,7 @@ module _ (problem : Problem) (centre : Layout) (tracks : List FlipTrack) (H : Is
     lists_set (x ∷ ts) (suc k) = ap (λ ls. x.flips ∷ ls) (lists_set ts k)
 
     pub plan_set : plan_of problem centre.edges (set tracks t track) ≡ with_list plan t track.flips
-    plan_set = ap (λ ls. record { centre = centre.edges; weights = weights_of problem; lists = ls }) (lists_set tracks t)
+    plan_set = ap (λ ls. record { centre = centre.edges; weights = problem.weights; lists = ls }) (lists_set tracks t)
 
     same_next : swaps.next ≡ with_list plan t track.flips
     same_next = (let e = sym swaps.is_swapped ∙ T.swapped in cc)
@@ -115,6 +115,7 @@ module _ (problem : Problem) (centre : Layout) (tracks : List FlipTrack) (H : Is
     pub held_swapped : IsHeld problem centre (set tracks t track)
     held_swapped = record {
       is_problem = H.is_problem;
+      weighed = H.weighed;
       of_points = H.of_points;
       lead = lead_set problem.inputs tracks t h H.lead T.is_track;
       is_plan = subst (IsPlanOf problem.points problem.inputs) (same_next ∙ sym plan_set) swaps.is_plan;

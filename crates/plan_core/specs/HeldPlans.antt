@@ -1,5 +1,5 @@
 -- What is seen of a plan, and what the calls make of it.
-use Rattle.std.specs.Prelude.{◌≡◌, ℕ, min, Some, List, [], ◌∷◌, length, map, replicate, slice_index_or}
+use Rattle.std.specs.Prelude.{◌≡◌, ℕ, min, Some, List, [], ◌∷◌, length, map, slice_index_or}
 use Rattle.geo_orient.specs.declared.Point.{Point}
 use Rattle.edge_table.specs.declared.edge.Edge.{Edge}
 use Rattle.tri_theory.specs.Rounds.{IsPlan, total}
@@ -13,10 +13,6 @@ pub record HeldPlan : Type 0 where
   pub problem : Problem
   pub plan : Plan
   pub spare : ℕ
-
--- the weight of each input: 1, as long as instances have no weights
-abbrev pub weights_of : Problem → List ℕ
-weights_of problem = replicate (length problem.inputs) 1
 
 -- the flips of the list with the place t
 abbrev pub list_at : Plan → ℕ → List Flip
@@ -44,8 +40,8 @@ pub record LeadsTo (points : List Point) (centre input : List Edge) (track : Fli
 -- the lists, grouped, are schedules to the centre, the weights are those of the instance, and the total is that of the schedules
 pub record HasSchedules (problem : Problem) (plan : Plan) : Type 0 where
   pub is_plan : IsPlan problem.points problem.inputs plan.centre (schedules plan)
-  pub weights : plan.weights ≡ weights_of problem
-  pub as_many : total (weights_of problem) (schedules plan) ≡ plan_total plan
+  pub weights : plan.weights ≡ problem.weights
+  pub as_many : total problem.weights (schedules plan) ≡ plan_total plan
 
 -- e can be followed, and then the total is n
 abbrev pub TotalsAfter : List Point → Plan → Edge → ℕ → Type 0

@@ -82,14 +82,14 @@ impl Plan {
         })
     }
 
-    /// The rounds of all lists together.
+    /// The rounds of all lists, each counted as often as the weight of its input says.
     pub fn total(&self) -> u128
         ensures total { result ≡ plan_total self.now.plan }
         ensures problem { IsProblem self.now.problem.points self.now.problem.inputs }
         ensures plan { IsPlanOf self.now.problem.points self.now.problem.inputs self.now.plan }
         ensures schedules { HasSchedules self.now.problem self.now.plan }
     {
-        sum_rounds(&self.tracks)
+        sum_rounds(&self.inst, &self.tracks)
     }
 
     /// The rounds of the list of an input.
@@ -106,7 +106,7 @@ impl Plan {
         ensures { TotalsAfter self.now.problem.points self.now.plan e result }
     {
         let _ = self.centre.points();
-        sum_rounds_after(&self.tracks, e)
+        sum_rounds_after(&self.inst, &self.tracks, e)
     }
 
     /// Whether an edge flips in the centre.

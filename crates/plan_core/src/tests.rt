@@ -15,7 +15,9 @@ fn edge(rt: &impl Abort, a: u32, b: u32) -> Edge {
     Edge::of(a, b).expect(rt, "two points")
 }
 
-fn raw_square(alloc: Global) -> Result<RawInstance, AllocError> {
+fn raw_square(alloc: Global) -> Result<RawInstance, AllocError>
+    ensures { IfOk result (λ raw. length raw.weights ≡ length raw.inputs) }
+{
     let mut points = PointList::make(alloc);
     points.push(Point { x: 0, y: 0 })?;
     points.push(Point { x: 2, y: 0 })?;
@@ -25,11 +27,7 @@ fn raw_square(alloc: Global) -> Result<RawInstance, AllocError> {
     input.push(RawPair { a: 1, b: 3 })?;
     let mut inputs = RawInputs::make(alloc);
     inputs.push(input)?;
-    Ok(RawInstance {
-        uid: Uid::of(alloc, "square")?,
-        points,
-        inputs,
-    })
+    RawInstance::unweighted(alloc, Uid::of(alloc, "square")?, points, inputs)
 }
 
 fn append(rt: &impl Abort, alloc: Global, track: &mut Track, e: Edge) -> Result<(), Fail>

@@ -50,11 +50,7 @@ fn instance(alloc: Global, points: PointList, inputs: RawInputs) -> Result<Arc<I
     let uid = Uid::of(alloc, "settling")?;
     Ok(Instance::check(
         alloc,
-        RawInstance {
-            uid,
-            points,
-            inputs,
-        },
+        RawInstance::unweighted(alloc, uid, points, inputs)?,
     )?)
 }
 

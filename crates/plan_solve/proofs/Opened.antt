@@ -12,7 +12,7 @@ use Rattle.lawson_start.specs.Starts.{IsStart}
 use Rattle.plan_law.specs.Plans.{Plan, IsPlanOf, plan_total, IsSettled, Settles}
 use Rattle.plan_law.specs.Improving.{improved}
 use Rattle.plan_moves.specs.Improved.{words_of}
-use Rattle.plan_core.specs.HeldPlans.{LeadsTo, lists_of, weights_of}
+use Rattle.plan_core.specs.HeldPlans.{LeadsTo, lists_of}
 use Rattle.plan_moves.proofs.Openings.{tracks_lead}
 use Rattle.plan_solve.specs.declared.order.Order.{Order}
 use Rattle.plan_solve.specs.Solves.{IsOpeningPlan, IsFoundPlan}
@@ -24,7 +24,7 @@ edges_of_tracks : (tracks : List FlipTrack) → map (λ (track : FlipTrack). fli
 edges_of_tracks [] = refl
 edges_of_tracks (track ∷ tracks) = ap (λ rest. flipped_edges track.flips ∷ rest) (edges_of_tracks tracks)
 
-pub start_opens : (problem : Problem) (budget : ℕ) (start : Start) (plan : Plan) → IsStart problem.points problem.inputs budget start → IsPlanOf problem.points problem.inputs plan → plan.weights ≡ weights_of problem → plan.centre ≡ start.centre.edges → plan.lists ≡ lists_of start.tracks
+pub start_opens : (problem : Problem) (budget : ℕ) (start : Start) (plan : Plan) → IsStart problem.points problem.inputs budget start → IsPlanOf problem.points problem.inputs plan → plan.weights ≡ problem.weights → plan.centre ≡ start.centre.edges → plan.lists ≡ lists_of start.tracks
     → IsOpeningPlan problem budget plan
 start_opens problem budget start plan is is_plan weights centre lists = record {
   is_plan = is_plan;

@@ -5,7 +5,6 @@ use Rattle.tri_check.specs.Problems.{Problem}
 use Rattle.flip_list_law.specs.FlipLists.{flipped_edges}
 use Rattle.lawson_law.specs.LawsonRuns.{IsOpening}
 use Rattle.lawson_start.specs.Starts.{AreWithin}
-use Rattle.plan_core.specs.HeldPlans.{weights_of}
 use Rattle.plan_law.specs.Plans.{Plan, IsPlanOf, plan_total, IsSettled, Settles}
 use Rattle.plan_law.specs.Improving.{improved}
 use Rattle.plan_moves.specs.Improved.{words_of}
@@ -14,7 +13,7 @@ use Rattle.plan_solve.specs.declared.order.Order.{Order}
 -- the opening of an instance as a plan: the list of each input is its run, and no run has more flips than the budget
 pub record IsOpeningPlan (problem : Problem) (budget : ℕ) (plan : Plan) : Type 0 where
   pub is_plan : IsPlanOf problem.points problem.inputs plan
-  pub weights : plan.weights ≡ weights_of problem
+  pub weights : plan.weights ≡ problem.weights
   pub runs : IsOpening problem.points problem.inputs (map flipped_edges plan.lists) plan.centre
   pub within : AreWithin problem.points problem.inputs budget
 

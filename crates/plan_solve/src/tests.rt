@@ -1,5 +1,5 @@
 // The octagon whose inputs are the fans at two neighbours: what is found with turns and without.
-ghost use Rattle.std.specs.Prelude.{◌≡◌, IfOk};
+ghost use Rattle.std.specs.Prelude.{◌≡◌, IfOk, length};
 
 use super::*;
 use geo_orient::Point;
@@ -46,15 +46,13 @@ fn pairs_of(alloc: Global, diagonals: &[(i64, i64)]) -> Result<PairList, AllocEr
     Ok(pairs)
 }
 
-fn raw_octagon(alloc: Global) -> Result<RawInstance, AllocError> {
+fn raw_octagon(alloc: Global) -> Result<RawInstance, AllocError>
+    ensures { IfOk result (λ raw. length raw.weights ≡ length raw.inputs) }
+{
     let mut inputs = RawInputs::make(alloc);
     inputs.push(pairs_of(alloc, &FIRST_FAN)?)?;
     inputs.push(pairs_of(alloc, &SECOND_FAN)?)?;
-    Ok(RawInstance {
-        uid: Uid::of(alloc, "octagon")?,
-        points: points_of(alloc)?,
-        inputs,
-    })
+    RawInstance::unweighted(alloc, Uid::of(alloc, "octagon")?, points_of(alloc)?, inputs)
 }
 
 fn octagon(alloc: Global) -> Result<Arc<Instance>, Fail> {

@@ -1,19 +1,14 @@
 -- All lists of an instance: their rounds together, and where they end.
 use Rattle.std.proofs.Common.{◌≡◌, ◌⊎◌, inl, inr, ◌∙◌, ℕ, zero, suc, ◌+◌, ◌<◌, List, [], ◌∷◌, ◌++◌, length, Option, None, Some, sym, ap, subst, arith}
 use native.Mathlib.Decide.{dec_lt}
-use Rattle.std.proofs.lemmas.List.Sums.{sum-map, sum_by_push}
 use Rattle.geo_orient.specs.declared.Point.{Point}
 use Rattle.edge_table.specs.declared.edge.Edge.{Edge}
 use Rattle.tri_theory.specs.Rounds.{IsPlan}
 use Rattle.replay.specs.Independent.{AreRoundsOf}
 use Rattle.replay.specs.declared.fault.ScoreFault.{ScoreFault}
 use Rattle.replay.specs.declared.fault.ScoreFault.TheVariants.{InputCount, Round, NoCommonCentre, OutOfMemory}
-use Rattle.replay.specs.Scores.{LeadsTo, AllLead, HasFirstFault, EndsApart, IsScoreFault, AreAllDistinct, total}
+use Rattle.replay.specs.Scores.{LeadsTo, AllLead, HasFirstFault, EndsApart, IsScoreFault, AreAllDistinct}
 use Rattle.replay.specs.Ends.{IsCentre, IsEndFault, IsApart, IsNextApart}
-
-pub total_push : (lists : List (List (List Edge))) (rounds : List (List Edge)) → total (lists ++ rounds ∷ []) ≡ total lists + length rounds
-total_push lists rounds =
-    sum-map (λ rounds. length rounds) (lists ++ rounds ∷ []) ∙ sum_by_push (λ rounds. length rounds) lists rounds ∙ ap (λ n. n + length rounds) (sym (sum-map (λ rounds. length rounds) lists))
 
 below_last : (k t : ℕ) → k < t + 1 → (k < t) ⊎ (k ≡ t)
 below_last k t h = by_test (dec_lt k t)

@@ -1,5 +1,5 @@
 -- Which lists of rounds are no plan of an instance, and which fault is the first.
-use Rattle.std.specs.Prelude.{◌≡◌, ◌≢◌, ℕ, ◌<◌, List, length, map, sum, Some, slice_get, All}
+use Rattle.std.specs.Prelude.{◌≡◌, ◌≢◌, ℕ, ◌<◌, List, length, Some, slice_get, All}
 use Rattle.geo_orient.specs.declared.Point.{Point}
 use Rattle.edge_table.specs.declared.edge.Edge.{Edge}
 use Rattle.replay.specs.declared.fault.ScoreFault.{ScoreFault}
@@ -47,7 +47,3 @@ IsScoreFault points inputs lists OutOfMemory = Unit {0}
 -- no round of any list names an edge twice
 abbrev pub AreAllDistinct : List (List (List Edge)) → Type 0
 AreAllDistinct lists = All (λ rounds. All HasNoRepeats rounds) lists
-
--- the rounds of all lists
-abbrev pub total : List (List (List Edge)) → ℕ
-total lists = sum (map (λ rounds. length rounds) lists)

@@ -1,7 +1,7 @@
 // The score of the rounds of all inputs of an instance.
 ghost use Rattle.std.specs.Prelude.{◌≡◌, ◌<◌, length, IfOk, IfErr};
-ghost use Rattle.tri_theory.specs.Rounds.{IsPlan};
-ghost use Rattle.replay.specs.Scores.{LeadsTo, AllLead, AreAllDistinct, IsScoreFault, total};
+ghost use Rattle.tri_theory.specs.Rounds.{IsPlan, total};
+ghost use Rattle.replay.specs.Scores.{LeadsTo, AllLead, AreAllDistinct, IsScoreFault};
 ghost use Rattle.replay.specs.Ends.{IsEndFault, IsCentre, IsApart, IsNextApart};
 
 use crate::{ReplayFault, ScoreFault, replay};
@@ -9,7 +9,7 @@ use edge_table::{Rounds, RoundsList};
 use std::alloc::Global;
 use tri_check::{Instance, Triang};
 
-/// The number of rounds of all inputs together, an empty round counted as one, and the triangulation in which all of them end.
+/// The rounds of all inputs, each counted as often as the weight of its input says and an empty one like any other, and the triangulation in which all of them end.
 #[derive(Drop)]
 pub struct Scored {
     pub total: u128,
@@ -23,13 +23,14 @@ fn cost(rounds: &Rounds) -> u64
     rounds.len() as u64
 }
 
-/// The number of rounds of all lists together, empty ones among them.
-pub fn total(lists: &RoundsList) -> u128
-    ensures { result ≡ total lists.now }
+/// The rounds of all lists, empty ones among them, each counted as often as the weight of its input says.
+pub fn total(inst: &Instance, lists: &RoundsList) -> u128
+    requires { length lists.now ≡ length inst.now.inputs }
+    ensures { result ≡ total inst.now.weights lists.now }
 {
     let mut sum: u128 = 0;
-    for t in 0..lists.len() {
-        sum += u128::from(cost(lists.at(t)));
+    for t in 0..inst.inputs() {
+        sum += inst.weighed(t, cost(lists.at(t as usize)));
     }
     sum
 }
@@ -99,7 +100,7 @@ fn centre_of(alloc: Global, inst: &Instance, lists: &RoundsList) -> Result<Trian
 
 /// The score of one list of rounds for each input, or the first fault. Takes the time of a replay of each list.
 pub fn score(alloc: Global, inst: &Instance, lists: &RoundsList) -> Result<Scored, ScoreFault>
-    ensures total { IfOk result (λ scored. scored.total ≡ total lists.now) }
+    ensures total { IfOk result (λ scored. scored.total ≡ total inst.now.weights lists.now) }
     ensures points { IfOk result (λ scored. scored.centre.points ≡ inst.now.points) }
     ensures plan { IfOk result (λ scored. IsPlan inst.now.points inst.now.inputs scored.centre.edges lists.now) }
     ensures distinct { IfOk result (λ _. AreAllDistinct lists.now) }
@@ -112,7 +113,7 @@ pub fn score(alloc: Global, inst: &Instance, lists: &RoundsList) -> Result<Score
     }
     let centre = centre_of(alloc, inst, lists)?;
     Ok(Scored {
-        total: total(lists),
+        total: total(inst, lists),
         centre,
     })
 }

@@ -35,11 +35,7 @@ fn diagonals(alloc: Global) -> Result<RawInputs, AllocError> {
 }
 
 fn square(alloc: Global) -> Result<Arc<Instance>, CheckFault> {
-    let raw = RawInstance {
-        uid: Uid::of(alloc, "square")?,
-        points: corners(alloc)?,
-        inputs: diagonals(alloc)?,
-    };
+    let raw = RawInstance::unweighted(alloc, Uid::of(alloc, "square")?, corners(alloc)?, diagonals(alloc)?)?;
     Instance::check(alloc, raw)
 }
 

@@ -1,5 +1,5 @@
 // A square and a hexagon with ample memory.
-ghost use Rattle.std.specs.Prelude.{IsTrue, IfOk};
+ghost use Rattle.std.specs.Prelude.{IsTrue, IfOk, ◌≡◌, length};
 ghost use Rattle.tri_theory.specs.Flips.{Flips};
 
 use super::*;
@@ -49,14 +49,12 @@ fn fan(alloc: Global) -> Result<PairList, AllocError> {
     Ok(input)
 }
 
-fn raw(alloc: Global, points: PointList, input: PairList) -> Result<RawInstance, AllocError> {
+fn raw(alloc: Global, points: PointList, input: PairList) -> Result<RawInstance, AllocError>
+    ensures { IfOk result (λ raw. length raw.weights ≡ length raw.inputs) }
+{
     let mut inputs = RawInputs::make(alloc);
     inputs.push(input)?;
-    Ok(RawInstance {
-        uid: Uid::of(alloc, "polygon")?,
-        points,
-        inputs,
-    })
+    RawInstance::unweighted(alloc, Uid::of(alloc, "polygon")?, points, inputs)
 }
 
 fn track_of(rt: &impl Abort, alloc: Global, raw: RawInstance) -> Result<Track, Fail> {

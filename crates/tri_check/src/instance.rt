@@ -1,5 +1,5 @@
 // An instance: a name, points, and triangulations of them as inputs.
-ghost use Rattle.std.specs.Prelude.{◌≡◌, ◌<◌, ◌≤◌, ◌↔◌, length, sum, slice_get, Some, IsTrue, IfOk, IfErr};
+ghost use Rattle.std.specs.Prelude.{◌≡◌, ◌<◌, ◌≤◌, ◌↔◌, ◌*◌, ◌-◌, ◌^◌, length, sum, slice_get, slice_index_or, Some, IsTrue, IfOk, IfErr};
 ghost use Rattle.tri_theory.specs.Triangulations.{IsSegment};
 ghost use Rattle.tri_theory.specs.Copies.{copy_of};
 ghost use Rattle.tri_check.specs.Problems.{IsProblem, AreFewWeights};
@@ -116,6 +116,15 @@ impl Instance {
         ensures small { result ≤ 16 }
     {
         *self.weights.at(t as usize)
+    }
+
+    /// So many rounds of an input as a total counts them: each as often as the input's weight says.
+    pub fn weighed(&self, t: u32, rounds: u64) -> u128
+        requires { t < length self.now.inputs }
+        ensures weighed { result ≡ slice_index_or self.now.weights t 0 * rounds }
+        ensures small { result ≤ 16 * (2 ^ 64 - 1) }
+    {
+        u128::from(self.weight(t)) * u128::from(rounds)
     }
 
     /// The number of copies, at most 256: each input stands for as many as its weight says.

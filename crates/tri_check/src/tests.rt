@@ -1,4 +1,6 @@
 // Small instances, valid ones and one for each kind of fault.
+ghost use Rattle.std.specs.Prelude.{◌≡◌, length, IfOk};
+
 use super::*;
 use edge_table::Edge;
 use geo_orient::Point;
@@ -18,27 +20,22 @@ fn raw(
     alloc: Global,
     points: &[Point],
     pairs: Option<&[(i64, i64)]>,
-) -> Result<RawInstance, AllocError> {
+) -> Result<RawInstance, AllocError>
+    ensures { IfOk result (λ raw. length raw.weights ≡ length raw.inputs) }
+{
     let mut list = PointList::make(alloc);
     for p in points {
         list.push(*p)?;
     }
     let mut inputs = RawInputs::make(alloc);
-    let mut weights = WeightList::make(alloc);
     if let Some(pairs) = pairs {
-        weights.push(1)?;
         let mut input = PairList::make(alloc);
         for (a, b) in pairs {
             input.push(RawPair { a: *a, b: *b })?;
         }
         inputs.push(input)?;
     }
-    Ok(RawInstance {
-        uid: Uid::of(alloc, "small")?,
-        points: list,
-        inputs,
-        weights,
-    })
+    RawInstance::unweighted(alloc, Uid::of(alloc, "small")?, list, inputs)
 }
 
 // What is wrong with the points and one input of these pairs.

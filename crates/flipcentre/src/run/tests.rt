@@ -1,4 +1,6 @@
 // Runs over stores and sinks in memory: each row a file, the words, and the status and line that are wanted.
+ghost use Rattle.std.specs.Prelude.{◌≡◌, length, IfOk};
+
 use super::*;
 use geo_orient::Point;
 use host_io::{MemSink, MemStore};
@@ -398,7 +400,9 @@ fn limits_are_named_in_their_order(rt: HostRuntime) -> Result<(), Fail> {
 }
 
 // One point out of reach, one input with so many pairs, and so many further inputs.
-fn raw_of_size(alloc: Global, pairs: usize, more: usize) -> Result<RawInstance, AllocError> {
+fn raw_of_size(alloc: Global, pairs: usize, more: usize) -> Result<RawInstance, AllocError>
+    ensures { IfOk result (λ raw. length raw.weights ≡ length raw.inputs) }
+{
     let mut points = PointList::make(alloc);
     points.push(Point {
         x: 536_870_913,
@@ -413,11 +417,7 @@ fn raw_of_size(alloc: Global, pairs: usize, more: usize) -> Result<RawInstance, 
     for _ in 0..more {
         inputs.push(PairList::make(alloc))?;
     }
-    Ok(RawInstance {
-        uid: Uid::of(alloc, "L")?,
-        points,
-        inputs,
-    })
+    RawInstance::unweighted(alloc, Uid::of(alloc, "L")?, points, inputs)
 }
 
 // What the validator says of them.

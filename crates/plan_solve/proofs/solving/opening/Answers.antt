@@ -2,7 +2,6 @@ use Rattle.std.proofs.Common.{◌≡◌, subst}
 use Rattle.tri_check.specs.Problems.{Problem}
 use Rattle.lawson_start.specs.Starts.{IsStart}
 use Rattle.plan_law.specs.Plans.{IsPlanOf}
-use Rattle.plan_core.specs.HeldPlans.{weights_of}
 use Rattle.plan_solve.proofs.Opened.{start_leads, start_opens}
 use Rattle.plan_solve.proofs.solving.opening.Goals as goal
 
@@ -16,4 +15,4 @@ returns-clause-opens c =
     start_opens c.args.inst.value c.args.flips c.in_ok-centre.field-0 c.in_ok-plan.plan.plan
     (subst (λ (p : Problem). IsStart p.points p.inputs c.args.flips c.in_ok-centre.field-0) c.deref.ensures c.in_ok-centre.ensures.ok)
     (subst (λ (p : Problem). IsPlanOf p.points p.inputs c.in_ok-plan.plan.plan) c.in_ok-plan.ensures.problem c.total.ensures.plan)
-    (subst (λ (p : Problem). c.in_ok-plan.plan.plan.weights ≡ weights_of p) c.in_ok-plan.ensures.problem c.total.ensures.schedules.weights) c.in_ok-plan.ensures.centre c.in_ok-plan.ensures.lists
+    (subst (λ (p : Problem). c.in_ok-plan.plan.plan.weights ≡ p.weights) c.in_ok-plan.ensures.problem c.total.ensures.schedules.weights) c.in_ok-plan.ensures.centre c.in_ok-plan.ensures.lists

@@ -1,6 +1,6 @@
 use Rattle.std.proofs.Common.{◌∙◌, ◌<◌, ◌≤◌, length, ap, subst, arith}
 use Rattle.std.proofs.lemmas.Result.{on_ok_weaker}
-use Rattle.plan_core.specs.HeldPlans.{HeldPlan, weights_of, least_spare}
+use Rattle.plan_core.specs.HeldPlans.{HeldPlan, least_spare}
 use Rattle.plan_core.specs.States.{IsHeld}
 use Rattle.plan_core.proofs.Held.{as_many, held_with_room, roomier_lists, roomier_spares}
 use Rattle.plan_core.proofs.Spares.{least_above, least_falls}
@@ -11,7 +11,7 @@ invariant_of-self c = held_with_room c.self.inside.inst.value c.self.inside.cent
 
 pub returns-clause-plan : goal.returns-clause-plan
 returns-clause-plan c =
-    ap (λ ls. record { centre = c.self.inside.centre.edges; weights = weights_of c.self.inside.inst.value; lists = ls }) (roomier_lists c.self.inside.tracks c.reserve_all.new.tracks c.reserve_all.ensures.kept) ∙ ap (λ (v : HeldPlan). v.plan) c.self.view_is
+    ap (λ ls. record { centre = c.self.inside.centre.edges; weights = c.self.inside.inst.value.weights; lists = ls }) (roomier_lists c.self.inside.tracks c.reserve_all.new.tracks c.reserve_all.ensures.kept) ∙ ap (λ (v : HeldPlan). v.plan) c.self.view_is
 
 pub returns-clause-spare : goal.returns-clause-spare
 returns-clause-spare c =
