@@ -5,6 +5,7 @@ mod best;
 mod bound;
 mod count;
 mod start;
+mod threads;
 mod walk;
 
 pub use best::Side;

@@ -4,6 +4,7 @@
 mod build;
 mod mesh;
 mod search;
+mod threads;
 mod turn;
 
 pub use mesh::{Mesh, Quad, Wings};

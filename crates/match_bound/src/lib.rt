@@ -6,6 +6,7 @@ mod labels;
 mod lists;
 mod search;
 mod table;
+mod threads;
 
 pub use best::{Assign, best_assignment, perm_bound};
 pub use lists::{Ints, Perm};

@@ -8,6 +8,7 @@ mod round;
 mod schedule;
 mod scoring;
 mod sides;
+mod threads;
 
 pub use fault::{ReplayFault, RoundFault, ScoreFault};
 pub use schedule::replay;

@@ -8,6 +8,7 @@ mod list;
 mod maker;
 mod number;
 mod slot;
+mod threads;
 mod track;
 
 pub use list::TrackList;

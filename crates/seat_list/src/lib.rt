@@ -2,6 +2,7 @@
 #![tactic(auto)]
 
 mod list;
+mod threads;
 
 pub use list::SeatList;
 

@@ -5,6 +5,7 @@ mod chain;
 mod side;
 mod slots;
 mod table;
+mod threads;
 
 pub use side::Side;
 pub use table::SideTable;

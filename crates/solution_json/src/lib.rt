@@ -5,6 +5,7 @@ mod edges;
 mod fault;
 mod read;
 mod solution;
+mod threads;
 mod write;
 
 pub use fault::{SolForm, SolMember, SolutionFault};
