@@ -13,6 +13,7 @@ mod points;
 mod segments;
 mod size;
 mod tables;
+mod threads;
 
 pub use fault::BuildFault;
 pub use frame::Frame;

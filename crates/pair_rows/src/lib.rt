@@ -5,6 +5,7 @@ ghost use Rattle.pair_rows.specs.Laws.{JustifiedRowsAreTrue};
 
 mod proving;
 mod row;
+mod threads;
 
 pub use proving::prove_pair;
 pub use row::{End, Evidence, Row};

@@ -10,6 +10,7 @@ mod moves;
 mod plan;
 mod room;
 mod swap;
+mod threads;
 mod totals;
 
 pub use fault::SwapFault;

@@ -6,6 +6,7 @@ mod greedy;
 mod improving;
 mod lowering;
 mod settling;
+mod threads;
 mod walking;
 
 pub use descending::{Descent, descend};

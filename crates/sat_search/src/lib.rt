@@ -6,6 +6,7 @@ mod lesson;
 mod order;
 mod resolution;
 mod search;
+mod threads;
 
 pub use search::{Answer, solve};
 

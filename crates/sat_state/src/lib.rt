@@ -7,6 +7,7 @@ mod spread;
 mod state;
 mod steps;
 mod table;
+mod threads;
 mod uses;
 
 pub use state::State;
