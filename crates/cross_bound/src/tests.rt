@@ -39,7 +39,12 @@ fn fans(alloc: Global) -> Result<RawInputs, AllocError> {
 }
 
 fn pentagon(alloc: Global) -> Result<Arc<Instance>, CheckFault> {
-    let raw = RawInstance::unweighted(alloc, Uid::of(alloc, "pentagon")?, corners(alloc)?, fans(alloc)?)?;
+    let raw = RawInstance::unweighted(
+        alloc,
+        Uid::of(alloc, "pentagon")?,
+        corners(alloc)?,
+        fans(alloc)?,
+    )?;
     Instance::check(alloc, raw)
 }
 

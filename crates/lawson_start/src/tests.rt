@@ -40,10 +40,7 @@ fn with_diagonal(alloc: Global, inputs: &mut RawInputs, a: i64, b: i64) -> Resul
 
 fn instance(alloc: Global, points: PointList, inputs: RawInputs) -> Result<Arc<Instance>, Fail> {
     let uid = Uid::of(alloc, "circle")?;
-    Ok(Instance::check(
-        alloc,
-        RawInstance::unweighted(alloc, uid, points, inputs)?,
-    )?)
+    Ok(Instance::check(alloc, RawInstance::unweighted(alloc, uid, points, inputs)?)?)
 }
 
 fn opened(alloc: Global, places: &[(i64, i64)], inputs: RawInputs) -> Result<Start, Fail> {

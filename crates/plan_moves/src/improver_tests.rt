@@ -21,7 +21,12 @@ fn both_diagonals(alloc: Global) -> Result<Plan, Fail> {
     let mut inputs = RawInputs::make(alloc);
     inputs.push(diagonal(alloc, 0, 2)?)?;
     inputs.push(diagonal(alloc, 1, 3)?)?;
-    let raw = RawInstance::unweighted(alloc, Uid::of(alloc, "square")?, points_of(alloc, &SQUARE)?, inputs)?;
+    let raw = RawInstance::unweighted(
+        alloc,
+        Uid::of(alloc, "square")?,
+        points_of(alloc, &SQUARE)?,
+        inputs,
+    )?;
     opening(alloc, Instance::check(alloc, raw)?)
 }
 

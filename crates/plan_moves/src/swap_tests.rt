@@ -49,7 +49,12 @@ fn fans(alloc: Global) -> Result<RawInputs, AllocError> {
 }
 
 pub(crate) fn octagon(alloc: Global) -> Result<Arc<Instance>, Fail> {
-    let raw = RawInstance::unweighted(alloc, Uid::of(alloc, "octagon")?, octagon_points(alloc)?, fans(alloc)?)?;
+    let raw = RawInstance::unweighted(
+        alloc,
+        Uid::of(alloc, "octagon")?,
+        octagon_points(alloc)?,
+        fans(alloc)?,
+    )?;
     Ok(Instance::check(alloc, raw)?)
 }
 

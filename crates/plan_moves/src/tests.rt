@@ -48,10 +48,7 @@ fn input_of(alloc: Global, diagonals: &[(i64, i64)]) -> Result<RawInputs, AllocE
 
 fn instance(alloc: Global, points: PointList, inputs: RawInputs) -> Result<Arc<Instance>, Fail> {
     let uid = Uid::of(alloc, "settling")?;
-    Ok(Instance::check(
-        alloc,
-        RawInstance::unweighted(alloc, uid, points, inputs)?,
-    )?)
+    Ok(Instance::check(alloc, RawInstance::unweighted(alloc, uid, points, inputs)?)?)
 }
 
 fn append(rt: &impl Abort, alloc: Global, track: &mut Track, e: Edge) -> Result<(), Fail>

@@ -35,7 +35,12 @@ fn diagonals(alloc: Global) -> Result<RawInputs, AllocError> {
 }
 
 fn square(alloc: Global) -> Result<Arc<Instance>, CheckFault> {
-    let raw = RawInstance::unweighted(alloc, Uid::of(alloc, "square")?, corners(alloc)?, diagonals(alloc)?)?;
+    let raw = RawInstance::unweighted(
+        alloc,
+        Uid::of(alloc, "square")?,
+        corners(alloc)?,
+        diagonals(alloc)?,
+    )?;
     Instance::check(alloc, raw)
 }
 
