@@ -1,8 +1,7 @@
 -- Copies of inputs: how many, whose, and that a plan's schedules, copied, are a plan of them with as many rounds as its total.
-use Rattle.std.proofs.Common.{◌≡◌, ◌⊎◌, inl, inr, ℕ, zero, suc, ◌+◌, ◌-◌, ◌/◌, ◌<◌, ◌≤◌, List, [], ◌∷◌, ◌++◌, length, get_or, take, replicate, sum, sum_by, refl, sym, ap, ap₂, ◌∙◌, subst, subst₂, arith, length-append}
+use Rattle.std.proofs.Common.{◌≡◌, ℕ, zero, suc, ◌+◌, ◌/◌, ◌<◌, ◌≤◌, List, [], ◌∷◌, ◌++◌, length, get_or, replicate, sum, sum_by, refl, sym, ap, ap₂, ◌∙◌, subst, subst₂, arith}
 use Rattle.std.specs.List.{All, enumerate_from, range_with_len}
-use Rattle.std.proofs.lemmas.Bool.{cases_lt}
-use Rattle.std.proofs.lemmas.List.{length-replicate, get_or-replicate}
+use Rattle.std.proofs.lemmas.List.{length-replicate}
 use Rattle.std.proofs.lemmas.List.Elements.{All-replicate, All-append}
 use Rattle.std.proofs.lemmas.List.Sums.{sum_by-cons, sum_by-append, sum-map}
 use Rattle.std.proofs.lemmas.List.Folds.{sum_by-replicate}
@@ -15,7 +14,7 @@ use Rattle.tri_theory.specs.Rounds.{IsSchedule, Within, IsPlan, AreWeights, tota
 use Rattle.assignment_law.specs.Assignments.{IsAssignment, assignment_bound}
 use Rattle.bound_law.specs.Bounds.{AreLowerBounds}
 use Rattle.bound_law.specs.Copies.{copied, copy_of, copy_lower}
-use Rattle.tri_theory.proofs.Copies.{copies_counted, copies_items, copies_in_order}
+use Rattle.tri_theory.proofs.Copies.{copies_counted, copies_items}
 use Rattle.bound_law.proofs.Bounded.{round_sum, assignment_bounds}
 
 -- ---- plans

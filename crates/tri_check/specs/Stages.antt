@@ -11,7 +11,7 @@ use Rattle.tri_check.specs.declared.fault.Bad.{Bad}
 use Rattle.tri_check.specs.declared.fault.CheckFault.{CheckFault}
 use Rattle.tri_check.specs.declared.fault.CheckFault.TheVariants as fault
 use Rattle.tri_check.specs.Layouts.{Layout, AreInReach}
-use Rattle.tri_check.specs.Faults.{HoldsOfShape, HoldsOfWeights, NamesPoint, place_of, IsEarlier, IsWeight, whole_sum, IsCompletedInput, IsOpen}
+use Rattle.tri_check.specs.Faults.{HoldsOfShape, HoldsOfWeights, NamesPoint, place_of, IsEarlier, IsWeight, IsCompletedInput, IsOpen}
 
 -- ---- searches
 
