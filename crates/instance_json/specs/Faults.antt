@@ -6,11 +6,11 @@ use Rattle.std.specs.Cmp.Lexicographic.{slice_cmp}
 use Rattle.serde_json.specs.Data.{Data}
 use Rattle.serde_json.specs.Find.{get, as_object}
 use Rattle.json_value.specs.Values.{IsText, IsWhole, IsFirstOther, elements}
-use Rattle.instance_json.specs.Members.{name_of, number_of, IsAt, HasType, numbers_of}
+use Rattle.instance_json.specs.Members.{name_of, number_of, IsNeeded, IsAt, HasType, numbers_of}
 use Rattle.instance_json.specs.declared.fault.Member.{Member}
-use Rattle.instance_json.specs.declared.fault.Member.TheVariants.{PointsX, PointsY}
+use Rattle.instance_json.specs.declared.fault.Member.TheVariants.{PointsX, PointsY, Triangulations, Weights}
 use Rattle.instance_json.specs.declared.fault.Form.{Form}
-use Rattle.instance_json.specs.declared.fault.Form.TheVariants.{NotJson, NotObject, Missing, WrongType, NotInteger, LengthMismatch}
+use Rattle.instance_json.specs.declared.fault.Form.TheVariants.{NotJson, NotObject, Missing, WrongType, NotInteger, LengthMismatch, WeightCount}
 use Rattle.instance_json.specs.declared.fault.InstanceFault.{InstanceFault}
 use Rattle.instance_json.specs.declared.fault.InstanceFault.TheVariants as faults
 
@@ -18,10 +18,11 @@ use Rattle.instance_json.specs.declared.fault.InstanceFault.TheVariants as fault
 abbrev pub HoldsIn : Data → Form → Type 0
 HoldsIn d NotJson = ⊥
 HoldsIn d NotObject = as_object d ≡ None
-HoldsIn d (Missing m) = get (name_of m) d ≡ None
+HoldsIn d (Missing m) = IsNeeded m × (get (name_of m) d ≡ None)
 HoldsIn d (WrongType m) = (v : Data) × IsAt d m v × ¬ HasType m v
 HoldsIn d (NotInteger m place) = (v e : Data) × IsAt d m v × (slice_get (numbers_of m v) place ≡ Some e) × ¬ IsWhole e
 HoldsIn d (LengthMismatch x y) = (xs ys : Data) × IsAt d PointsX xs × IsAt d PointsY ys × (x ≡ length (elements xs)) × (y ≡ length (elements ys)) × (x ≢ y)
+HoldsIn d (WeightCount w m) = (ws inputs : Data) × IsAt d Weights ws × IsAt d Triangulations inputs × (w ≡ length (elements ws)) × (m ≡ length (elements inputs)) × (w ≢ m)
 
 -- the bytes have the fault: they are no text of JSON, or the value that they spell has it
 abbrev pub Holds : List ℕ → Form → Type 0
@@ -36,6 +37,7 @@ place_of (Missing m) = 3 ∷ number_of m ∷ []
 place_of (WrongType m) = 4 ∷ number_of m ∷ []
 place_of (NotInteger m place) = 5 ∷ number_of m ∷ place ∷ []
 place_of (LengthMismatch x y) = 6 ∷ []
+place_of (WeightCount w m) = 7 ∷ []
 
 -- the one fault is looked for before the other
 abbrev pub IsEarlier : Form → Form → Type 0

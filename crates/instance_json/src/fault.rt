@@ -5,13 +5,14 @@ ghost use Rattle.instance_json.specs.declared.fault.InstanceFault.TheVariants as
 
 use std::alloc::{AllocError, AllocFailed};
 
-/// A member of an instance's object that is read.
+/// A member of an instance's object that is read. The weights may be missing, and no other.
 #[derive(Clone, Copy, Debug, PartialEq, Eq)]
 pub enum Member {
     Uid,
     PointsX,
     PointsY,
     Triangulations,
+    Weights,
 }
 
 /// What is wrong with a text, in the order in which it is looked for. Of one kind the members go in the order of `Member`, and in a member the least place comes first.
@@ -21,14 +22,16 @@ pub enum Form {
     NotJson,
     /// The text is no object.
     NotObject,
-    /// The object lacks the member.
+    /// The object lacks the member, which isn't the weights.
     Missing(Member),
-    /// The name is no string, the coordinates are no list, or the triangulations no list of lists of two-element lists.
+    /// The name is no string, the coordinates or the weights are no list, or the triangulations no list of lists of two-element lists.
     WrongType(Member),
-    /// In the member, the element with this place is no whole number, or doesn't fit 64 bits with a sign. For coordinates the place is the index. For triangulations it counts the elements of all pairs that stand before. Both from 0.
+    /// In the member, the element with this place is no whole number, or doesn't fit 64 bits with a sign. For coordinates and weights the place is the index. For triangulations it counts the elements of all pairs that stand before. Both from 0.
     NotInteger(Member, u64),
     /// There are so many x and so many y.
     LengthMismatch(u64, u64),
+    /// There are so many weights for so many triangulations.
+    WeightCount(u64, u64),
 }
 
 /// Why a text gives no instance.
@@ -49,6 +52,7 @@ impl Member {
             Member::PointsX => "points_x",
             Member::PointsY => "points_y",
             Member::Triangulations => "triangulations",
+            Member::Weights => "x_weights",
         }
     }
 }

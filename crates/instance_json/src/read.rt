@@ -1,30 +1,32 @@
 // An instance read from a text, member by member.
-ghost use Rattle.std.specs.Prelude.{◌≡◌, IfOk, IfErr, All, None, Some, length, map};
+ghost use Rattle.std.specs.Prelude.{◌≡◌, IfOk, IfErr, IsSomeAnd, MatchOption, All, None, Some, length, map, pos, replicate};
 ghost use Rattle.std.specs.List.{AllZip, flat_map};
+ghost use Rattle.std.specs.Option.{option_map};
 ghost use Rattle.serde_json.specs.Data.{Data};
 ghost use Rattle.serde_json.specs.Find.{as_array, as_str, get};
 ghost use Rattle.serde_json.specs.View.{view};
 ghost use Rattle.json_value.specs.Values.{IsList, IsListOf, IsNumber, IsPair, IsPairOf, Lists, numbers_of_pairs};
 ghost use Rattle.instance_json.specs.Members.{name_of, IsAt, HasType};
 ghost use Rattle.instance_json.specs.Faults.{OnFault, OnFaultIn, HasForm, IsOther};
-ghost use Rattle.instance_json.specs.Forms.{TextsSpellOnce, HasMembers, HasLists, IsRaw, Spells};
+ghost use Rattle.instance_json.specs.Forms.{TextsSpellOnce, IsListIfAny, WeighInputs, HasMembers, HasLists, IsRaw, Spells};
 
 use crate::{Form, InstanceFault, Member};
 use geo_orient::Point;
 use json_value::{NumberFault, ParseFault};
 use serde_json::Value;
 use std::alloc::{AllocError, Global};
-use tri_check::{PointList, RawInputs, RawInstance, Uid};
+use tri_check::{PointList, RawInputs, RawInstance, Uid, WeightList};
 
 /// The law of spelling.
 pub fn laws()
     ensures { TextsSpellOnce }
 {}
 
-/// The instance that a text of JSON spells. Time and memory grow with the length of the text.
+/// The instance that a text of JSON spells. Where the text has no weights, each input weighs 1. Time and memory grow with the length of the text.
 pub fn read_instance(alloc: Global, bytes: &[u8]) -> Result<RawInstance, InstanceFault>
     ensures ok { IfOk result (λ raw. Spells bytes.now raw) }
     ensures form { IfOk result (λ raw. HasForm bytes.now) }
+    ensures counted { IfOk result (λ raw. length raw.weights ≡ length raw.inputs) }
     // The fault is the first that the bytes have.
     ensures fault { IfErr result (λ e. OnFault bytes.now e) }
 {
@@ -37,6 +39,7 @@ pub fn read_instance(alloc: Global, bytes: &[u8]) -> Result<RawInstance, Instanc
 
 fn instance_in(alloc: Global, value: &Value) -> Result<RawInstance, InstanceFault>
     ensures ok { IfOk result (λ raw. IsRaw (view value.now) raw) }
+    ensures counted { IfOk result (λ raw. length raw.weights ≡ length raw.inputs) }
     ensures fault { IfErr result (λ e. OnFaultIn (view value.now) e) }
 {
     if !value.is_object() {
@@ -46,7 +49,8 @@ fn instance_in(alloc: Global, value: &Value) -> Result<RawInstance, InstanceFaul
     let xs = member_in(value, Member::PointsX)?;
     let ys = member_in(value, Member::PointsY)?;
     let inputs = member_in(value, Member::Triangulations)?;
-    instance_of_members(alloc, uid, xs, ys, inputs)
+    let weights = value.get(Member::Weights.name());
+    instance_of_members(alloc, uid, xs, ys, inputs, weights)
 }
 
 fn member_in<'a>(value: &'a Value, m: Member) -> Result<&'a Value, Form>
@@ -59,24 +63,27 @@ fn member_in<'a>(value: &'a Value, m: Member) -> Result<&'a Value, Form>
     }
 }
 
-// The instance of an object with these members.
+// The instance of an object with these members, of which the weights may be missing.
 fn instance_of_members(
     alloc: Global,
     uid: &Value,
     xs: &Value,
     ys: &Value,
     inputs: &Value,
+    weights: Option<&Value>,
 ) -> Result<RawInstance, InstanceFault>
     ensures ok { IfOk result (λ raw. (d : Data)
-        → HasMembers d (view uid.now) (view xs.now) (view ys.now) (view inputs.now) → IsRaw d raw) }
+        → HasMembers d (view uid.now) (view xs.now) (view ys.now) (view inputs.now) (option_map (λ v. view v.now) weights.entry) → IsRaw d raw) }
+    ensures counted { IfOk result (λ raw. length raw.weights ≡ length raw.inputs) }
     ensures fault { IfErr result (λ e. (d : Data)
-        → HasMembers d (view uid.now) (view xs.now) (view ys.now) (view inputs.now) → OnFaultIn d e) }
+        → HasMembers d (view uid.now) (view xs.now) (view ys.now) (view inputs.now) (option_map (λ v. view v.now) weights.entry) → OnFaultIn d e) }
 {
     let uid = text_in(uid)?;
     let xs = list_in(xs, Member::PointsX)?;
     let ys = list_in(ys, Member::PointsY)?;
     let inputs = inputs_in(inputs)?;
-    instance_of_lists(alloc, uid, xs, ys, inputs)
+    let weights = weights_in(weights)?;
+    instance_of_lists(alloc, uid, xs, ys, inputs, weights)
 }
 
 fn text_in(value: &Value) -> Result<&str, Form>
@@ -111,25 +118,45 @@ fn inputs_in(value: &Value) -> Result<&[Value], Form>
     }
 }
 
-// The instance of an object with this name and these lists at its members.
+// The list of the weights, if there are any.
+fn weights_in(value: Option<&Value>) -> Result<Option<&[Value]>, Form>
+    ensures ok { IfOk result (λ vs. IsListIfAny (option_map (λ v. view v.now) value.entry) (option_map (λ list. map view list.now) vs)) }
+    ensures wrong { IfErr result (λ f. (f ≡ Form.WrongType Member.Weights) × IsSomeAnd value.entry (λ v. as_array (view v.now) ≡ None)) }
+{
+    match value {
+        Some(found) => Ok(Some(list_in(found, Member::Weights)?)),
+        None => Ok(None),
+    }
+}
+
+// The instance of an object with this name and these lists at its members, of which that of the weights may be missing.
 fn instance_of_lists(
     alloc: Global,
     uid: &str,
     xs: &[Value],
     ys: &[Value],
     inputs: &[Value],
+    weights: Option<&[Value]>,
 ) -> Result<RawInstance, InstanceFault>
     requires { All (IsListOf IsPair) (map view inputs.now) }
     ensures ok { IfOk result (λ raw. (d : Data)
-        → HasLists d uid.now (map view xs.now) (map view ys.now) (map view inputs.now) → IsRaw d raw) }
+        → HasLists d uid.now (map view xs.now) (map view ys.now) (map view inputs.now) (option_map (λ list. map view list.now) weights.entry) → IsRaw d raw) }
+    ensures counted { IfOk result (λ raw. length raw.weights ≡ length raw.inputs) }
     ensures fault { IfErr result (λ e. (d : Data)
-        → HasLists d uid.now (map view xs.now) (map view ys.now) (map view inputs.now) → OnFaultIn d e) }
+        → HasLists d uid.now (map view xs.now) (map view ys.now) (map view inputs.now) (option_map (λ list. map view list.now) weights.entry) → OnFaultIn d e) }
 {
     let xs = numbers_in(alloc, xs, Member::PointsX)?;
     let ys = numbers_in(alloc, ys, Member::PointsY)?;
     let inputs = pairs_in(alloc, inputs)?;
+    let weights = weights_of(alloc, weights, inputs.len())?;
     if xs.len() != ys.len() {
         return Err(InstanceFault::Form(Form::LengthMismatch(xs.len() as u64, ys.len() as u64)));
+    }
+    if weights.len() != inputs.len() {
+        return Err(InstanceFault::Form(Form::WeightCount(
+            weights.len() as u64,
+            inputs.len() as u64,
+        )));
     }
     let points = points_of(alloc, &xs, &ys)?;
     let uid = Uid::of(alloc, uid)?;
@@ -137,6 +164,7 @@ fn instance_of_lists(
         uid,
         points,
         inputs,
+        weights,
     })
 }
 
@@ -164,6 +192,39 @@ fn pairs_in(alloc: Global, values: &[Value]) -> Result<RawInputs, InstanceFault>
         ))),
         Err(NumberFault::OutOfMemory) => Err(InstanceFault::OutOfMemory),
     }
+}
+
+// The weights that are listed, or ones for so many inputs where there is no list.
+fn weights_of(
+    alloc: Global,
+    values: Option<&[Value]>,
+    inputs: usize,
+) -> Result<WeightList, InstanceFault>
+    ensures ok { IfOk result (λ weights. WeighInputs (option_map (λ list. map view list.now) values.entry) inputs weights) }
+    ensures other { IfErr result (λ e. MatchOption values.entry (e ≡ InstanceFault.OutOfMemory) (λ list. IsOther Member.Weights (map view list.now) e)) }
+{
+    match values {
+        Some(values) => listed_weights(alloc, values),
+        None => Ok(ones(alloc, inputs)?),
+    }
+}
+
+fn listed_weights(alloc: Global, values: &[Value]) -> Result<WeightList, InstanceFault>
+    ensures ok { IfOk result (λ weights. AllZip IsNumber (map view values.now) weights) }
+    ensures other { IfErr result (λ e. IsOther Member.Weights (map view values.now) e) }
+{
+    let numbers = numbers_in(alloc, values, Member::Weights)?;
+    Ok(WeightList::of(alloc, &numbers)?)
+}
+
+fn ones(alloc: Global, count: usize) -> Result<WeightList, AllocError>
+    ensures { IfOk result (λ ones. ones ≡ replicate count (pos 1)) }
+{
+    let mut ones = WeightList::make(alloc);
+    for _ in 0..count {
+        ones.push(1)?;
+    }
+    Ok(ones)
 }
 
 fn points_of(alloc: Global, xs: &[i64], ys: &[i64]) -> Result<PointList, AllocError>

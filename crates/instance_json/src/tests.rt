@@ -31,6 +31,18 @@ fn the_first_fault_of_form_is_named(rt: HostRuntime) {
             "{\"instance_uid\":\"Q\",\"points_x\":[1.0],\"points_y\":[0],\"triangulations\":[[[0,1,2]]]}",
             Form::WrongType(Member::Triangulations),
         ),
+        (
+            "{\"instance_uid\":\"Q\",\"points_x\":[0.5],\"points_y\":[],\"triangulations\":[[],[]],\"x_weights\":\"a\"}",
+            Form::WrongType(Member::Weights),
+        ),
+        (
+            "{\"instance_uid\":\"Q\",\"points_x\":[0],\"points_y\":[],\"triangulations\":[[],[]],\"x_weights\":[1,1.5]}",
+            Form::NotInteger(Member::Weights, 1),
+        ),
+        (
+            "{\"instance_uid\":\"Q\",\"points_x\":[0],\"points_y\":[0],\"triangulations\":[[],[]],\"x_weights\":[1]}",
+            Form::WeightCount(1, 2),
+        ),
     ];
     for (text, want) in rows {
         let got = read_instance(rt.alloc(), text.as_bytes()).err();
@@ -51,4 +63,18 @@ fn an_instance_has_the_values_of_its_text(rt: HostRuntime) {
     assert_eq!(rt; raw.uid.text(), "Q");
     assert_eq!(rt; raw.points.len(), 4);
     assert_eq!(rt; raw.inputs.len(), 2);
+    // Without weights each input weighs 1.
+    assert_eq!(rt; raw.weights.as_slice(), [1, 1].as_slice());
+}
+
+#[test]
+fn weights_are_read_in_the_order_of_the_text(rt: HostRuntime) {
+    let text =
+        "{\"instance_uid\":\"Q\",\"points_x\":[],\"points_y\":[],\"triangulations\":[[],[]],\"x_weights\":[3,-1]}";
+    let got = read_instance(rt.alloc(), text.as_bytes());
+    let Ok(raw) = got else {
+        assert!(rt; false, "an instance");
+        return;
+    };
+    assert_eq!(rt; raw.weights.as_slice(), [3, -1].as_slice());
 }
