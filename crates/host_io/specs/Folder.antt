@@ -1,5 +1,5 @@
 -- What a store over files is seen as: its counts alone, since what files hold isn't known.
-use Rattle.std.specs.Prelude.{◌≡◌, ℕ, List, Option, Some, None, Result, Ok, Err}
+use Rattle.std.specs.Prelude.{◌≡◌, ◌<◌, ℕ, length, List, Option, Some, None, Result, Ok, Err}
 use Rattle.host_io.specs.Store.{one_more}
 use Rattle.host_io.specs.declared.fail.StoreFail.{StoreFail}
 use Rattle.host_io.specs.declared.fail.StoreFail.TheVariants.{Failed, NotHeld, OutOfMemory}
@@ -26,3 +26,8 @@ after_write s (Err OutOfMemory) = record s { calls = one_more s.calls }
 abbrev pub IsAll : Option (List ℕ) → List ℕ → Type 0
 IsAll None bytes = Unit {0}
 IsAll (Some known) bytes = bytes ≡ known
+
+-- where it is known which bytes a reader will give: they are more than so many
+abbrev pub IsLonger : ℕ → Option (List ℕ) → Type 0
+IsLonger most None = Unit {0}
+IsLonger most (Some known) = most < length known

@@ -10,6 +10,7 @@ mod sink;
 mod std_sink;
 mod store;
 mod threads;
+mod whole_file;
 
 pub use bytes::Bytes;
 pub use dir_store::DirStore;
@@ -20,5 +21,7 @@ pub use sink::{Sink, put_all};
 pub use std_sink::StdSink;
 pub use store::Store;
 
+#[cfg(test)]
+mod file_tests;
 #[cfg(test)]
 mod tests;

@@ -62,6 +62,7 @@ fn a_file_is_written_and_read_back(rt: HostRuntime) -> Result<(), Fail> {
     let bytes = store.read(alloc, "written")?;
     assert_eq!(rt; bytes.as_slice(), b"some bytes".as_slice());
     assert_eq!(rt; read(&mut store, alloc, "missing"), Err(StoreFail::Failed));
+    std::fs::remove_file(&rt, "written")?;
     Ok(())
 }
 

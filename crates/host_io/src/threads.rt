@@ -20,7 +20,7 @@ fn _memory_crosses_threads(
 }
 
 // A store of files and a sink for standard output may be moved and shared where the handle may.
-fn _handles_cross_threads<R: Files + Print + Drop + Send + Sync>(
+fn _handles_cross_threads<R: Files + Print + AllocGlobal + Drop + Send + Sync>(
     store: &DirStore<R>,
     sink: &StdSink<R>,
 ) {

@@ -1,7 +1,7 @@
 use Rattle.std.proofs.Common.{rules, ◌≡◌, ◌∙◌, ◌+◌, ◌≤◌, lit≤, ap, arith, length, take, length-append, length-take-le}
 use Rattle.std.proofs.KnownBytes.{Consumes-nil, Consumes-trans}
 use Rattle.host_io.proofs.Transfers.{whole}
-use Rattle.host_io.proofs.dir_store.read_all.Goals as goal
+use Rattle.host_io.proofs.whole_file.read_all.Goals as goal
 
 pub loop-init : goal.loop-init
 loop-init g c = rw c.make-bytes.ensures (Consumes-nil _, lit≤ tt)

@@ -1,6 +1,6 @@
 use Rattle.std.proofs.Common.{◌≤◌, length}
 use Rattle.std.specs.Io.KnownBytes.{Consumes}
-use Rattle.host_io.proofs.dir_store.read_all.Given as goal
+use Rattle.host_io.proofs.whole_file.read_all.Given as goal
 
 -- what was read so far is what the reader has lost, and it is within the limit
 abbrev pub invariant-loop : goal.invariant-loop

@@ -2,7 +2,7 @@ use Rattle.std.proofs.Common.{◌≡◌, ◌∙◌, ◌++◌, [], take, sym, ari
 use Rattle.std.proofs.lemmas.Bool.{eqb-true}
 use Rattle.std.proofs.KnownBytes.{Appends-trans}
 use Rattle.host_io.proofs.Transfers.{moves_front, taken}
-use Rattle.host_io.proofs.dir_store.write_all.Goals as goal
+use Rattle.host_io.proofs.whole_file.write_all.Goals as goal
 
 pub loop-rest-preserved : goal.loop-rest-preserved
 loop-rest-preserved g c =

@@ -1,6 +1,6 @@
 use Rattle.std.proofs.Common.{◌≡◌, ℕ, List, ◌++◌, length}
 use Rattle.std.specs.Io.KnownBytes.{Appends}
-use Rattle.host_io.proofs.dir_store.write_all.Given as goal
+use Rattle.host_io.proofs.whole_file.write_all.Given as goal
 
 -- what is gone from the rest was taken
 abbrev pub invariant-loop-rest : goal.invariant-loop-rest
