@@ -1,3 +1,4 @@
+mod Calling
 mod Once
 mod Found
 mod Saying

@@ -2,7 +2,9 @@
 ghost use Rattle.std.specs.Prelude.{◌≡◌, ◌≢◌, ◌⊎◌, IfOk, IsErrOf, string_bytes};
 ghost use Rattle.host_io.specs.Store.{Rose};
 ghost use Rattle.flipcentre.specs.Lines.{words_line};
-ghost use Rattle.centre_words.specs.Words.{texts, IsUnasked};
+ghost use Rattle.centre_words.specs.Words.{texts, Asks, IsUnasked};
+ghost use Rattle.centre_words.specs.declared.asked.Asked.{Asked};
+ghost use Rattle.flipcentre.specs.Calls.{CallsFor, CallsInOrder};
 ghost use Rattle.flipcentre.specs.Runs.{Does, BreaksOff, KeepsOthers, IsReadOnly, HasReadCause, CallsOnce, IsFaultless, Completes, Tells, TellsPart};
 
 use crate::checking::check_file;
@@ -38,6 +40,11 @@ fn reply_to<S: Store>(alloc: Global, words: &[String], store: &mut S) -> Result<
     ensures read_only { IsReadOnly (texts words.now) → S.write_faults store.new ≡ S.write_faults store.old }
     ensures calls { CallsOnce (texts words.now) (S.calls store.old) (S.calls store.new) }
     ensures uncalled { IsUnasked (texts words.now) → S.calls store.new ≡ S.calls store.old }
+    ensures called { IfOk result (λ r. (c : Asked) → Asks (texts words.now) c → CallsFor c r.status (S.calls store.old) (S.calls store.new)) }
+    ensures stopped { IsErrOf result Quiet.ReadFault
+        → CallsInOrder (texts words.now) (S.held store.old) (Rose (S.read_faults store.old) (S.read_faults store.new)) Status.ReadFault (S.calls store.old) (S.calls store.new) }
+    ensures broken_calls { IsErrOf result Quiet.WriteFault
+        → CallsInOrder (texts words.now) (S.held store.old) (Rose (S.read_faults store.old) (S.read_faults store.new)) Status.WriteFault (S.calls store.old) (S.calls store.new) }
 {
     match read_words(alloc, words) {
         Ok(Asked::Check { instance }) => check_file(alloc, store, instance.text()),
@@ -105,10 +112,11 @@ pub fn run_plain<S: Store, O: Sink>(
     ensures words_decide { IsUnasked (texts words.now) → ¬ Rose (O.faults out.old) (O.faults out.new)
         → (result ≡ Status.Words) ⊎ (result ≡ Status.Memory) }
 
-    // The store keeps what it holds under all names but those that the command writes. It is called at most once for each file of the command, and not where the words are those of no command.
+    // The store keeps what it holds under all names but those that the command writes. It is called at most once for each file of the command, and not where the words are those of no command. Names are read in order, up to the first that can't be; then names are written, where all was done.
     ensures kept { KeepsOthers (texts words.now) (S.held store.old) (S.held store.new) }
     ensures read_only { IsReadOnly (texts words.now) → S.write_faults store.new ≡ S.write_faults store.old }
     ensures calls { CallsOnce (texts words.now) (S.calls store.old) (S.calls store.new) }
+    ensures in_order { CallsInOrder (texts words.now) (S.held store.old) (Rose (S.read_faults store.old) (S.read_faults store.new)) result (S.calls store.old) (S.calls store.new) }
     ensures uncalled { IsUnasked (texts words.now) → S.calls store.new ≡ S.calls store.old }
 {
     let reply = match reply_to(alloc, words, store) {

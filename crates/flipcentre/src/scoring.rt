@@ -1,9 +1,10 @@
 // The command `score`.
-ghost use Rattle.std.specs.Prelude.{◌≡◌, ◌≢◌, ◌⊎◌, ◌+◌, ◌≤◌, length, IfOk, IsErrOf, string_bytes};
+ghost use Rattle.std.specs.Prelude.{◌≡◌, ◌≢◌, ◌⊎◌, ◌+◌, ◌≤◌, [], ◌∷◌, length, IfOk, IsErrOf, string_bytes};
 ghost use Rattle.host_io.specs.Store.{Rose};
 ghost use Rattle.tri_check.specs.Problems.{IsProblem};
 ghost use Rattle.flipcentre.specs.Lines.{score_fault_line};
 ghost use Rattle.centre_words.specs.declared.asked.Asked.TheVariants.{Score};
+ghost use Rattle.flipcentre.specs.Calls.{CallsFor, StopsReading};
 ghost use Rattle.flipcentre.specs.Runs.{SolutionSays, RawSays, ScoreSays, CommandDoes, LacksFile};
 
 use crate::lines::{bad_text, form_text};
@@ -98,6 +99,9 @@ pub(crate) fn score_files<S: Store>(
     ensures kept { S.held store.new ≡ S.held store.old }
     ensures writes { S.write_faults store.new ≡ S.write_faults store.old }
     ensures calls { S.calls store.new ≤ S.calls store.old + 2 }
+    ensures called { IfOk result (λ r. CallsFor (Score instance.now solution.now) r.status (S.calls store.old) (S.calls store.new)) }
+    ensures stopped { IsErrOf result Quiet.ReadFault
+        → StopsReading (S.held store.old) (Rose (S.read_faults store.old) (S.read_faults store.new)) (instance.now ∷ solution.now ∷ []) (S.calls store.old) (S.calls store.new) }
 {
     let bytes = read_file(alloc, store, instance)?;
     let others = read_file(alloc, store, solution)?;

@@ -1,6 +1,6 @@
 // The command `solve`.
-ghost use Rattle.std.specs.Prelude.{◌≡◌, ◌⊎◌, ◌+◌, ◌≤◌, Some, None, Ok, IfOk, OnOk, IsErrOf, string_bytes};
-ghost use Rattle.host_io.specs.Store.{Rose};
+ghost use Rattle.std.specs.Prelude.{◌≡◌, ◌⊎◌, ◌+◌, ◌≤◌, [], ◌∷◌, Some, None, Ok, IfOk, OnOk, IsErrOf, string_bytes};
+ghost use Rattle.host_io.specs.Store.{Counts, Rose};
 ghost use Rattle.replay.specs.Scores.{total};
 ghost use Rattle.solution_json.specs.Texts.{text_of};
 ghost use Rattle.solution_json.specs.Forms.{Spells};
@@ -10,6 +10,7 @@ ghost use Rattle.plan_core.specs.HeldPlans.{HasSchedules};
 ghost use Rattle.centre_words.specs.declared.asked.Asked.TheVariants.{Solve};
 ghost use Rattle.flipcentre.specs.Lines.{solved_line};
 ghost use Rattle.flipcentre.specs.Orders.{order_of};
+ghost use Rattle.flipcentre.specs.Calls.{after_writing, CallsFor, StopsReading};
 ghost use Rattle.flipcentre.specs.Runs.{OrderSays, SolveSays, HasWritten, HasBrokenOff, file_under, CommandDoes, CommandBreaksOff, LacksFile};
 
 use crate::lines::{bad_text, form_text};
@@ -163,6 +164,8 @@ fn write_text<S: Store>(store: &mut S, name: &str, text: &Option<Bytes>) -> Resu
     ensures broken { IsErrOf result Quiet.WriteFault → HasBrokenOff (S.held store.old) (S.held store.new) (file_under name.now text.now) }
     ensures reads { S.read_faults store.new ≡ S.read_faults store.old }
     ensures calls { S.calls store.new ≤ S.calls store.old + 1 }
+    ensures called { OnOk result (S.calls store.new ≡ after_writing text.now (S.calls store.old)) }
+    ensures broken_call { IsErrOf result Quiet.WriteFault → Counts (S.calls store.old) (S.calls store.new) }
 {
     match text {
         Some(text) => write_file(store, name, text.as_slice()),
@@ -186,6 +189,11 @@ pub(crate) fn solve_file<S: Store>(
     ensures unwritten { IsErrOf result Quiet.WriteFault → Rose (S.write_faults store.old) (S.write_faults store.new) }
     ensures broken { IsErrOf result Quiet.WriteFault → CommandBreaksOff (S.held store.old) (S.held store.new) (Solve instance.now solution.now options.turns options.seed options.flips) }
     ensures calls { S.calls store.new ≤ S.calls store.old + 2 }
+    ensures called { IfOk result (λ r. CallsFor (Solve instance.now solution.now options.turns options.seed options.flips) r.status (S.calls store.old) (S.calls store.new)) }
+    ensures stopped { IsErrOf result Quiet.ReadFault
+        → StopsReading (S.held store.old) (Rose (S.read_faults store.old) (S.read_faults store.new)) (instance.now ∷ []) (S.calls store.old) (S.calls store.new) }
+    ensures broken_calls { IsErrOf result Quiet.WriteFault
+        → CallsFor (Solve instance.now solution.now options.turns options.seed options.flips) Status.Done (S.calls store.old) (S.calls store.new) }
 {
     let bytes = read_file(alloc, store, instance)?;
     let solved = solve_bytes(alloc, bytes.as_slice(), options)?;

@@ -3,6 +3,7 @@ use Rattle.centre_words.specs.Words.{texts}
 use Rattle.flipcentre.specs.Runs.{Says, Does, HasReadCause, IsTold, IsCutOff}
 use Rattle.flipcentre.proofs.Once.{says_once, read_fault_says}
 use Rattle.flipcentre.proofs.Saying.{same_keeps, done_keeps, broken_off_keeps, told_whole, cut_off, cut_part}
+use Rattle.flipcentre.proofs.Calling.{said_calls}
 use Rattle.flipcentre.proofs.run.run_plain.Goals as goal
 
 pub returns-in-Err-Memory-clause-kept : goal.returns-in-Err-Memory-clause-kept
@@ -75,3 +76,7 @@ returns-clause-complete g c = λ told status line files is says faultless.
 pub returns-clause-kept : goal.returns-clause-kept
 returns-clause-kept g c =
     done_keeps (texts c.args.words.now) (g.S.Store.held c.args.store.now) (g.S.Store.held c.reply_to.new.store) c.in-Ok.reply.status (string_bytes c.in-Ok.reply.line) c.in-Ok.ensures.does
+
+pub returns-clause-in_order : goal.returns-clause-in_order
+returns-clause-in_order g c = λ d asks.
+    said_calls (g.S.Store.held c.args.store.now) _ d c.in-Ok.reply.status _ _ (c.in-Ok.ensures.called d asks)

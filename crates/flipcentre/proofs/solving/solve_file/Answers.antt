@@ -1,8 +1,10 @@
-use Rattle.std.proofs.Common.{subst, string_bytes, Err}
+use Rattle.std.proofs.Common.{◌∙◌, ap, subst, string_bytes, Err}
 use Rattle.std.specs.Prelude.{IsErrOf}
 use Rattle.std.proofs.lemmas.Result.{err_from_is_err_and}
 use Rattle.flipcentre.specs.declared.reply.Quiet.TheVariants.{WriteFault}
 use Rattle.flipcentre.specs.Runs.{SolveSays}
+use Rattle.flipcentre.specs.Calls.{after_writing}
+use Rattle.flipcentre.proofs.Calling.{solve_calls}
 use Rattle.flipcentre.proofs.Saying.{solve_does, solve_breaks_off, is_error}
 use Rattle.flipcentre.proofs.solving.solve_file.Goals as goal
 
@@ -21,3 +23,9 @@ returns-in_err-write_text-clause-broken g c = λ is.
     let failed : IsErrOf {T = Unit {0}} (Err c.in_err-write_text.field-0.0) WriteFault = subst (λ e. IsErrOf {T = Unit {0}} (Err e) WriteFault) p.2 (is_error c.from_residual-in_err-write_text.result p.0 WriteFault p.1 is) in
     solve_breaks_off (g.S.Store.held c.args.store.now) _ _ c.args.instance.now c.args.solution.now c.in_ok-bytes.bytes c.args.options solved.reply.status line solved.text c.in_ok-bytes.ensures.held c.in_ok-bytes.ensures.kept
     (subst (λ bytes. SolveSays bytes c.args.options solved.reply.status line solved.text) c.as_slice.ensures c.in_ok-solved.ensures.says) (c.in_err-write_text.ensures.broken failed)
+
+pub returns-clause-called : goal.returns-clause-called
+returns-clause-called g c =
+    let solved = c.in_ok-solved.solved in
+    solve_calls _ c.args.instance.now c.args.solution.now c.args.options solved.reply.status (string_bytes solved.reply.line) solved.text _ _ c.in_ok-solved.ensures.says
+    (c.in_ok-write_text.ensures.called ∙ ap (λ n. after_writing solved.text n) c.in_ok-bytes.ensures.counted)
