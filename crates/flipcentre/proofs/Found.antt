@@ -1,5 +1,5 @@
 -- The schedules of a plan that was found are a solution.
-use Rattle.std.proofs.Common.{◌≡◌, sym, refl, subst, ℕ, suc, List, [], ◌∷◌, map, slice_index_or, Option, Some, arith}
+use Rattle.std.proofs.Common.{◌≡◌, ◌∙◌, ap, sym, refl, subst, ℕ, suc, List, [], ◌∷◌, map, slice_index_or, Option, Some, arith}
 use Rattle.std.specs.Prelude.{All, Contains}
 use Rattle.std.specs.List.{AllZip}
 use Rattle.std.proofs.lemmas.List.Elements.{All-nil, All-cons}
@@ -9,15 +9,15 @@ use Rattle.edge_table.specs.Edges.{IsAscending, IsBefore}
 use Rattle.edge_table.proofs.Ascending.{not_before_itself}
 use Rattle.tri_theory.specs.Points.{ArePlaced}
 use Rattle.tri_theory.specs.Triangulations.{IsTriangulation}
-use Rattle.tri_theory.specs.Rounds.{IsPlan}
+use Rattle.tri_theory.specs.Rounds.{IsPlan, total}
 use Rattle.tri_check.specs.Problems.{Problem, IsProblem}
 use Rattle.flip_list_law.specs.declared.Flip.{Flip}
 use Rattle.flip_list_law.specs.FlipLists.{IsFlipList, grouped}
 use Rattle.flip_list_law.specs.Laws.{Replays}
 use Rattle.flip_list_law.proofs.Proved.{grouping_replays}
 use Rattle.replay.specs.Independent.{HasNoRepeats}
-use Rattle.replay.specs.Scores.{AreAllDistinct, total}
-use Rattle.plan_law.specs.Plans.{Plan, schedules}
+use Rattle.replay.specs.Scores.{AreAllDistinct}
+use Rattle.plan_law.specs.Plans.{Plan, schedules, plan_total}
 use Rattle.plan_core.specs.HeldPlans.{HasSchedules}
 use Rattle.plan_solve.specs.declared.order.Order.{Order}
 use Rattle.plan_solve.specs.Solves.{IsFoundPlan}
@@ -79,7 +79,7 @@ found_of i plan s o problem found has uid lists spells = record {
   written = (form_of_text (text_of s) spells.value spells.text (no_form_fault spells.value s spells.is), spells);
 }
 
-pub found_says : (i : Problem) (plan : Plan) (s : Solution) (o : Order) (status : Status) (line : List ℕ) (text : Option (List ℕ)) → IsProblem i.points i.inputs → IsFoundPlan i o plan → HasSchedules i plan → s.uid ≡ i.uid → s.lists ≡ schedules plan
-    → (status ≡ Done) × (line ≡ solved_line (total s.lists) 0) × (text ≡ Some (text_of s)) × Spells (text_of s) s → OrderSays i o status line text
-found_says i plan s o status line text problem found has uid lists (done, told, written, spells) =
-    subst (λ t. OrderSays i o t line text) (sym done) (s, found_of i plan s o problem found has uid lists spells, told, written)
+pub found_says : (i : Problem) (plan : Plan) (s : Solution) (o : Order) (status : Status) (line : List ℕ) (text : Option (List ℕ)) (n : ℕ) → IsProblem i.points i.inputs → IsFoundPlan i o plan → HasSchedules i plan → s.uid ≡ i.uid → s.lists ≡ schedules plan → n ≡ plan_total plan
+    → (status ≡ Done) × (line ≡ solved_line n 0) × (text ≡ Some (text_of s)) × Spells (text_of s) s → OrderSays i o status line text
+found_says i plan s o status line text n problem found has uid lists sum (done, told, written, spells) =
+    subst (λ t. OrderSays i o t line text) (sym done) (s, found_of i plan s o problem found has uid lists spells, told ∙ ap (λ k. solved_line k 0) (sum ∙ sym has.as_many ∙ ap (total i.weights) (sym lists)), written)

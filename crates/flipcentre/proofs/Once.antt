@@ -18,6 +18,7 @@ use Rattle.tri_check.specs.declared.raw.RawInstance.{RawInstance}
 use Rattle.tri_check.specs.Faults.{IsValid, IsListed, IsCompletedInput}
 use Rattle.tri_check.specs.Problems.{Problem, IsProblem}
 use Rattle.tri_check.specs.Accepted.{IsAccepted}
+use Rattle.tri_check.proofs.Weighed.{numbers_once}
 use Rattle.tri_theory.specs.Inputs.{IsCompleted}
 use Rattle.flipcentre.specs.declared.status.Status.{Status}
 use Rattle.flipcentre.specs.declared.status.Status.TheVariants.{Done, Words, Refused, FlipBudget, Memory, ReadFault, WriteFault, No}
@@ -38,7 +39,7 @@ calls_once words c before now a bound d b = subst (λ e. now ≤ before + files_
 valid_faultless : (bytes : List ℕ) (raw : RawInstance) (line : List ℕ) → SpellsValid bytes raw → NamesInstanceFault bytes line → ⊥
 valid_faultless bytes raw line valid (inl (form, first, told)) = valid.0 form first.holds
 valid_faultless bytes raw line valid (inr (other, bad, spells, first, told)) =
-    subst (λ (r : RawInstance). IsValid r.points r.inputs) (spelled_once bytes raw other valid.1 spells) valid.2 bad first.holds
+    subst (λ (r : RawInstance). IsValid r.points r.inputs r.weights) (spelled_once bytes raw other valid.1 spells) valid.2 bad first.holds
 
 -- a file that is held isn't lacking
 held_there : (held : Held) (name bytes : List ℕ) → map.get held name ≡ Some bytes → map.get held name ≡ None → ⊥
@@ -68,12 +69,16 @@ completed_once points raw es fs (ps, l, c) (qs, m, d) =
 instance_once : (bytes : List ℕ) (i j : Problem) → SpellsInstance bytes i → SpellsInstance bytes j → i ≡ j
 instance_once bytes i j a b =
     let same = spelled_once bytes a.raw b.raw a.valid.1 b.valid.1 in
-    let other = subst (λ (r : RawInstance). IsAccepted r.uid r.points r.inputs j) (sym same) b.accepted in
+    let other = subst (λ (r : RawInstance). IsAccepted r.uid r.points r.inputs r.weights j) (sym same) b.accepted in
     let mine = a.accepted in
     let uid = mine.uid ∙ sym other.uid in
     let points = mine.points ∙ sym other.points in
     let inputs = zip_once (IsCompletedInput a.raw.points) (completed_once a.raw.points) a.raw.inputs i.inputs j.inputs mine.inputs other.inputs in
-    ap (λ u. record i { uid = u }) uid ∙ (ap (λ ps. record i { uid = j.uid; points = ps }) points ∙ ap (λ es. record i { uid = j.uid; points = j.points; inputs = es }) inputs)
+    let weights = numbers_once i.weights j.weights (sym mine.weights ∙ other.weights) in
+    ap (λ u. record i { uid = u }) uid
+    ∙ (ap (λ ps. record i { uid = j.uid; points = ps }) points
+    ∙ (ap (λ es. record i { uid = j.uid; points = j.points; inputs = es }) inputs
+    ∙ ap (λ ws. record i { uid = j.uid; points = j.points; inputs = j.inputs; weights = ws }) weights))
 
 solved_faultless : (i : Problem) (s : Solution) (line : List ℕ) → IsProblem i.points i.inputs → IsSolved i s → NamesScoreFault i s line → ⊥
 solved_faultless i s line problem solved (inl (other, told)) = other solved.uid

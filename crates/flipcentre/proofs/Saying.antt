@@ -28,7 +28,7 @@ use Rattle.flipcentre.specs.Lines.{valid_line, words_line}
 use Rattle.flipcentre.specs.Runs.{MayHold, CheckSays, ScoreSays, SolveSays, Files, file_under, CommandSays, CommandDoes, CommandBreaksOff, Says, AreWritten, HasWritten, AreCutOff, HasBrokenOff, Does, BreaksOff, LeavesName, KeepsOthers, IsTold, IsCutOff, TellsPart}
 
 pub accepted_says : (bytes : List ℕ) (raw : RawInstance) (problem : Problem) (status : Status) (line : List ℕ) → HasForm bytes → Spells bytes raw
-    → IsAccepted raw.uid raw.points raw.inputs problem → status ≡ Done → line ≡ valid_line (length problem.points) (length problem.inputs)
+    → IsAccepted raw.uid raw.points raw.inputs raw.weights problem → status ≡ Done → line ≡ valid_line (length problem.points) (length problem.inputs)
     → CheckSays bytes status line
 accepted_says bytes raw problem status line form spells accepted done told =
     subst (λ s. CheckSays bytes s line) (sym done)

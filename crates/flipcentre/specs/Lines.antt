@@ -3,7 +3,7 @@ use Rattle.std.specs.Prelude.{ℕ, List, [], ◌∷◌, ◌++◌, codes, decimal
 use Rattle.std.specs.List.{join_with_byte}
 use Rattle.edge_table.specs.declared.edge.Edge.{Edge}
 use Rattle.instance_json.specs.declared.fault.Form.{Form}
-use Rattle.instance_json.specs.declared.fault.Form.TheVariants.{NotJson, NotObject, Missing, WrongType, NotInteger, LengthMismatch}
+use Rattle.instance_json.specs.declared.fault.Form.TheVariants.{NotJson, NotObject, Missing, WrongType, NotInteger, LengthMismatch, WeightCount}
 use Rattle.instance_json.specs.Members.{name_of}
 use Rattle.replay.specs.declared.fault.RoundFault.{RoundFault}
 use Rattle.replay.specs.declared.fault.RoundFault.TheVariants.{NotEdge, Twice, NotConvex, SharedTriangle}
@@ -13,7 +13,7 @@ use Rattle.solution_json.specs.declared.fault.SolForm.{SolForm}
 use Rattle.solution_json.specs.declared.fault.SolForm.TheVariants as solution
 use Rattle.solution_json.specs.Members as solution_member
 use Rattle.tri_check.specs.declared.fault.Bad.{Bad}
-use Rattle.tri_check.specs.declared.fault.Bad.TheVariants.{TooManyPoints, TooManyInputs, TooManyPairs, CoordinateRange, TooFewPoints, RepeatedPoint, Collinear, NoInput, BadVertex, Loop, Blocked, Crossing, LonePoint, OpenSide}
+use Rattle.tri_check.specs.declared.fault.Bad.TheVariants.{TooManyPoints, TooManyInputs, TooManyPairs, CoordinateRange, TooFewPoints, RepeatedPoint, Collinear, NoInput, BadVertex, Loop, Blocked, Crossing, LonePoint, OpenSide, WeightRange, WeightSum}
 
 abbrev pub line : List (List ℕ) → List ℕ
 line words = join_with_byte 32 words ++ 10 ∷ []
@@ -44,6 +44,8 @@ bad_words (Blocked t e q) = codes "Blocked" ∷ decimal t ∷ edge_text e ∷ de
 bad_words (Crossing t e f) = codes "Crossing" ∷ decimal t ∷ edge_text e ∷ edge_text f ∷ []
 bad_words (LonePoint t p) = codes "LonePoint" ∷ decimal t ∷ decimal p ∷ []
 bad_words (OpenSide t e) = codes "OpenSide" ∷ decimal t ∷ edge_text e ∷ []
+bad_words (WeightRange t) = codes "WeightRange" ∷ decimal t ∷ []
+bad_words (WeightSum s) = codes "WeightSum" ∷ decimal s ∷ []
 
 -- an instance is refused, for this fault
 abbrev pub instance_refused : List (List ℕ) → List (List ℕ)
@@ -60,6 +62,7 @@ form_words (Missing m) = codes "Missing" ∷ name_of m ∷ []
 form_words (WrongType m) = codes "WrongType" ∷ name_of m ∷ []
 form_words (NotInteger m k) = codes "NotInteger" ∷ name_of m ∷ decimal k ∷ []
 form_words (LengthMismatch x y) = codes "LengthMismatch" ∷ decimal x ∷ decimal y ∷ []
+form_words (WeightCount w m) = codes "WeightCount" ∷ decimal w ∷ decimal m ∷ []
 
 abbrev pub form_line : Form → List ℕ
 form_line form = line (instance_refused (form_words form))

@@ -11,7 +11,7 @@ use Rattle.tri_check.specs.Faults.{IsFirstFault, IsValid}
 use Rattle.tri_check.specs.Accepted.{IsAccepted}
 use Rattle.tri_check.specs.Problems.{Problem, IsProblem}
 use Rattle.edge_table.specs.declared.edge.Edge.{Edge}
-use Rattle.tri_theory.specs.Rounds.{IsPlan}
+use Rattle.tri_theory.specs.Rounds.{IsPlan, total}
 use Rattle.solution_json.specs.declared.fault.SolForm.{SolForm}
 use Rattle.solution_json.specs.declared.solution.Solution.{Solution}
 use Rattle.solution_json.specs.Faults.{IsFirstSolFault}
@@ -20,7 +20,7 @@ use Rattle.solution_json.specs.Faults as solution_fault
 use Rattle.solution_json.specs.Forms as solution_form
 use Rattle.replay.specs.declared.fault.ScoreFault.{ScoreFault}
 use Rattle.replay.specs.declared.fault.ScoreFault.TheVariants.{OutOfMemory}
-use Rattle.replay.specs.Scores.{IsScoreFault, AreAllDistinct, total}
+use Rattle.replay.specs.Scores.{IsScoreFault, AreAllDistinct}
 use Rattle.flipcentre.specs.declared.status.Status.{Status}
 use Rattle.flipcentre.specs.declared.status.Status.TheVariants.{Done, Words, Refused, FlipBudget, Memory, ReadFault}
 use Rattle.centre_words.specs.declared.asked.Asked.{Asked}
@@ -50,19 +50,19 @@ IsUnheld (Some held) name = map.get held name ≡ None
 
 -- the bytes have the form of an instance, and spell a valid one
 abbrev pub SpellsValid : List ℕ → RawInstance → Type 0
-SpellsValid bytes raw = HasForm bytes × Spells bytes raw × IsValid raw.points raw.inputs
+SpellsValid bytes raw = HasForm bytes × Spells bytes raw × IsValid raw.points raw.inputs raw.weights
 
 -- the line names the first fault of the bytes as an instance: one of their form, or else one of what they spell
 abbrev pub NamesInstanceFault : List ℕ → List ℕ → Type 0
 NamesInstanceFault bytes line =
     ((form : Form) × IsFirstFormFault bytes form × (line ≡ form_line form))
-    ⊎ ((raw : RawInstance) × (bad : Bad) × Spells bytes raw × IsFirstFault raw.points raw.inputs bad × (line ≡ bad_line bad))
+    ⊎ ((raw : RawInstance) × (bad : Bad) × Spells bytes raw × IsFirstFault raw.points raw.inputs raw.weights bad × (line ≡ bad_line bad))
 
 -- the bytes have the form of an instance and spell a valid one, which is this one
 pub record SpellsInstance (bytes : List ℕ) (instance : Problem) : Type 0 where
   pub raw : RawInstance
   pub valid : SpellsValid bytes raw
-  pub accepted : IsAccepted raw.uid raw.points raw.inputs instance
+  pub accepted : IsAccepted raw.uid raw.points raw.inputs raw.weights instance
   pub problem : IsProblem instance.points instance.inputs
 
 -- ---- solutions
@@ -86,22 +86,22 @@ NamesScoreFault instance solution line =
 
 -- the total of a solution, or its first fault
 abbrev pub SolutionSays : Problem → Solution → Status → List ℕ → Type 0
-SolutionSays instance solution Done line = IsSolved instance solution × (line ≡ total_line (total solution.lists))
+SolutionSays instance solution Done line = IsSolved instance solution × (line ≡ total_line (total instance.weights solution.lists))
 SolutionSays instance solution Refused line = NamesScoreFault instance solution line
 SolutionSays instance solution _ line = ⊥
 
 -- what is said of raw values and a solution: the first fault of the values, or what the solution says of the instance that they are
 abbrev pub RawSays : RawInstance → Solution → Status → List ℕ → Type 0
 RawSays raw solution status line =
-    ((bad : Bad) × (status ≡ Refused) × IsFirstFault raw.points raw.inputs bad × (line ≡ bad_line bad))
-    ⊎ ((instance : Problem) × IsAccepted raw.uid raw.points raw.inputs instance × IsProblem instance.points instance.inputs × SolutionSays instance solution status line)
+    ((bad : Bad) × (status ≡ Refused) × IsFirstFault raw.points raw.inputs raw.weights bad × (line ≡ bad_line bad))
+    ⊎ ((instance : Problem) × IsAccepted raw.uid raw.points raw.inputs raw.weights instance × IsProblem instance.points instance.inputs × SolutionSays instance solution status line)
 
 -- the line names the first fault of the form of the instance, or else of the form of the solution, or else of the instance
 abbrev pub NamesFileFault : List ℕ → List ℕ → List ℕ → Type 0
 NamesFileFault bytes others line =
     ((form : Form) × IsFirstFormFault bytes form × (line ≡ form_line form))
     ⊎ (((form : SolForm) × HasForm bytes × IsFirstSolFault others form × (line ≡ solution_form_line form))
-    ⊎ ((raw : RawInstance) × (bad : Bad) × solution_fault.HasForm others × Spells bytes raw × IsFirstFault raw.points raw.inputs bad × (line ≡ bad_line bad)))
+    ⊎ ((raw : RawInstance) × (bad : Bad) × solution_fault.HasForm others × Spells bytes raw × IsFirstFault raw.points raw.inputs raw.weights bad × (line ≡ bad_line bad)))
 
 -- the solution that `solve` writes: the schedules of the plan that is found. It is one that `score` accepts, and what its text spells
 pub record IsFound (instance : Problem) (order : Order) (solution : Solution) : Type 0 where
@@ -127,7 +127,7 @@ ScoreSays bytes others status line =
 
 -- what `solve` says of an instance, and the text that it writes, if one: a solution with its total, or the first input whose run is longer than is allowed
 abbrev pub OrderSays : Problem → Order → Status → List ℕ → Option (List ℕ) → Type 0
-OrderSays instance order Done line text = (solution : Solution) × IsFound instance order solution × (line ≡ solved_line (total solution.lists) 0) × (text ≡ Some (text_of solution))
+OrderSays instance order Done line text = (solution : Solution) × IsFound instance order solution × (line ≡ solved_line (total instance.weights solution.lists) 0) × (text ≡ Some (text_of solution))
 OrderSays instance order FlipBudget line text = (t : ℕ) × IsOverBudget instance.points instance.inputs order.flips t × (line ≡ budget_line t) × (text ≡ None)
 OrderSays instance order _ line text = ⊥
 

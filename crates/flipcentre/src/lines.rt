@@ -42,6 +42,8 @@ pub fn bad_text(alloc: Global, bad: Bad) -> Result<String, AllocError>
         Bad::Crossing(t, e, f) => crossing_text(alloc, t, e, f),
         Bad::LonePoint(t, p) => numbers_text(alloc, "LonePoint", u64::from(t), u64::from(p)),
         Bad::OpenSide(t, e) => open_side_text(alloc, t, e),
+        Bad::WeightRange(t) => format!(in alloc; "refused instance WeightRange {t}\n"),
+        Bad::WeightSum(s) => format!(in alloc; "refused instance WeightSum {s}\n"),
     }
 }
 
@@ -98,5 +100,6 @@ pub fn form_text(alloc: Global, form: Form) -> Result<String, AllocError>
         Form::WrongType(member) => word_text(alloc, "WrongType", member.name()),
         Form::NotInteger(member, place) => place_text(alloc, "NotInteger", member.name(), place),
         Form::LengthMismatch(x, y) => numbers_text(alloc, "LengthMismatch", x, y),
+        Form::WeightCount(w, m) => numbers_text(alloc, "WeightCount", w, m),
     }
 }

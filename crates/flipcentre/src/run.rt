@@ -136,3 +136,5 @@ pub fn run_plain<S: Store, O: Sink>(
 mod solve_tests;
 #[cfg(test)]
 mod tests;
+#[cfg(test)]
+mod weight_tests;

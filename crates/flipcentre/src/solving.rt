@@ -1,7 +1,6 @@
 // The command `solve`.
 ghost use Rattle.std.specs.Prelude.{◌≡◌, ◌⊎◌, ◌+◌, ◌≤◌, [], ◌∷◌, Some, None, Ok, IfOk, OnOk, IsErrOf, string_bytes};
 ghost use Rattle.host_io.specs.Store.{Counts, Rose};
-ghost use Rattle.replay.specs.Scores.{total};
 ghost use Rattle.solution_json.specs.Texts.{text_of};
 ghost use Rattle.solution_json.specs.Forms.{Spells};
 ghost use Rattle.tri_check.specs.Problems.{IsProblem};
@@ -23,7 +22,6 @@ use instance_json::{InstanceFault, read_instance};
 use lawson_start::StartFault;
 use plan_core::Plan;
 use plan_solve::{Order, solve};
-use replay::total;
 use solution_json::{Solution, solution_text};
 use std::alloc::{AllocError, Global};
 use std::sync::Arc;
@@ -86,14 +84,14 @@ fn solution_of(alloc: Global, plan: &Plan) -> Result<Solution, AllocError>
 }
 
 // A solution with its total.
-fn found(alloc: Global, solution: &Solution) -> Result<Solved, Quiet>
-    ensures found { IfOk result (λ s. (s.reply.status ≡ Status.Done) × (string_bytes s.reply.line ≡ solved_line (total solution.now.lists) 0)
+fn found(alloc: Global, solution: &Solution, total: u128) -> Result<Solved, Quiet>
+    ensures found { IfOk result (λ s. (s.reply.status ≡ Status.Done) × (string_bytes s.reply.line ≡ solved_line total 0)
         × (s.text ≡ Some (text_of solution.now)) × Spells (text_of solution.now) solution.now) }
     ensures read { IsErrOf result Quiet.ReadFault → ⊥ }
     ensures write { IsErrOf result Quiet.WriteFault → ⊥ }
 {
     let text = solution_text(alloc, solution)?;
-    let line = solved_text(alloc, total(&solution.lists), 0)?;
+    let line = solved_text(alloc, total, 0)?;
     Ok(Solved {
         reply: Reply {
             status: Status::Done,
@@ -129,7 +127,10 @@ fn solve_instance(
     let _ = instance.count();
     let order = order_of(&instance, options);
     match solve(alloc, instance, order) {
-        Ok(plan) => found(alloc, &solution_of(alloc, &plan)?),
+        Ok(plan) => {
+            let solution = solution_of(alloc, &plan)?;
+            found(alloc, &solution, plan.total())
+        }
         Err(StartFault::FlipBudget(t)) => without_text(Status::FlipBudget, budget_text(alloc, t)),
         Err(StartFault::OutOfMemory) => Err(Quiet::Memory),
     }

@@ -1,5 +1,5 @@
 -- Weights: what each test finds is the first fault, and what it doesn't find isn't there.
-use Rattle.std.proofs.Common.{◌≡◌, ◌⊎◌, inl, inr, ℕ, ◌+◌, ◌<◌, ◌≤◌, ℤ, pos, ◌+ℤ◌, List, [], ◌∷◌, ◌++◌, map, sum, length, refl, sym, ap, ap₂, ◌∙◌, subst, subst₂, arith}
+use Rattle.std.proofs.Common.{◌≡◌, ◌⊎◌, inl, inr, ℕ, ◌+◌, ◌<◌, ◌≤◌, ℤ, pos, ◌+ℤ◌, List, [], ◌∷◌, ◌++◌, map, sum, length, refl, sym, ap, ap₂, ◌∙◌, subst, subst₂, arith, unsigned_abs, slice_index_or, drop}
 use Rattle.std.proofs.lemmas.Int.{ints}
 use Rattle.std.proofs.lemmas.Option.{slice_get_within, slice_get-get_or, get_or_from_slice_get}
 use Rattle.std.proofs.lemmas.List.{map_push, take_all, take_more, length-map}
@@ -20,6 +20,12 @@ use Rattle.tri_check.specs.Stages.{IsLeast, AreInRange, AreNumbers, AreWeighed, 
 use Rattle.tri_check.proofs.Order.{lex, lex_one, not_less, ranked, placed, rest_of, Less_than}
 
 -- ---- numbers
+pub numbers_once : (ns ms : List ℕ) → map pos ns ≡ map pos ms → ns ≡ ms
+numbers_once [] [] e = refl
+numbers_once [] (m ∷ ms) e = cc
+numbers_once (n ∷ ns) [] e = cc
+numbers_once (n ∷ ns) (m ∷ ms) e = ap₂ ◌∷◌ (ap (λ zs. unsigned_abs (slice_index_or zs 0 (pos n))) e) (numbers_once ns ms (ap (λ zs. drop 1 zs) e))
+
 pub number_more : (weights : List ℤ) (numbers new : List ℕ) (t w : ℕ) → AreInRange weights → AreNumbers weights numbers t → t < length weights → pos w ≡ weight_at weights t → new ≡ numbers ++ w ∷ [] → AreNumbers weights new (t + 1)
 number_more weights numbers new t w range N l e is = subst (λ ns. AreNumbers weights ns (t + 1)) (sym is) (record { same = take_more weights t (pos 0) l ∙ ap₂ (λ xs x. xs ++ x ∷ []) N.same (sym e) ∙ sym (map_push pos numbers w); positive = All-push (λ w. 1 ≤ w) numbers w N.positive low; small = All-push (λ w. w ≤ 16) numbers w N.small high })
   where
