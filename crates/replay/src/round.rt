@@ -1,5 +1,5 @@
 // One round: its edges tried in list order, and then flipped.
-ghost use Rattle.std.specs.Prelude.{◌≡◌, ◌↔◌, ◌++◌, ◌∷◌, [], IsTrue, OnOk, IfErr, Contains};
+ghost use Rattle.std.specs.Prelude.{◌≡◌, ◌↔◌, ◌++◌, ◌∷◌, [], IsTrue, OnOk, OnErr, IfErr, Contains};
 ghost use Rattle.tri_check.specs.Layouts.{IsTriangulated};
 ghost use Rattle.tri_theory.specs.Rounds.{IsRound};
 ghost use Rattle.replay.specs.Independent.{HasNoRepeats, AreIndependent};
@@ -89,6 +89,7 @@ pub(crate) fn make_round(
     ensures ok { OnOk result (IsRound mesh.old.points mesh.old.edges round.now mesh.new.edges) }
     ensures distinct { OnOk result (HasNoRepeats round.now) }
     ensures err { IfErr result (IsRoundRefusal mesh.old.points mesh.old.edges r round.now) }
+    ensures kept { OnErr result (mesh.new ≡ mesh.old) }
 {
     let _ = mesh.points();
     match try_round(alloc, mesh, r, round) {
