@@ -1,4 +1,5 @@
 pub mod Calls
+pub mod Ends
 pub mod Lines
 pub mod Orders
 pub mod Runs

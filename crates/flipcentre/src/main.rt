@@ -2,6 +2,7 @@
 #![tactic(auto)]
 
 mod checking;
+mod ending;
 mod lines;
 mod reply;
 mod run;
@@ -10,8 +11,8 @@ mod solution_lines;
 mod solving;
 mod status;
 
+use ending::end_number;
 use host_io::{DirStore, StdSink};
-use run::run_plain;
 use status::Status;
 use std::process::ExitCode;
 use std::{env, io};
@@ -34,5 +35,5 @@ fn main(rt: HostRuntime) -> ExitCode {
     };
     let mut store = DirStore::make(&rt);
     let mut out = StdSink::make(&rt);
-    ExitCode::from(run_plain(alloc, &words, &mut store, &mut out).number())
+    ExitCode::from(end_number(alloc, &words, &mut store, &mut out))
 }

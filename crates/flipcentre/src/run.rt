@@ -133,6 +133,8 @@ pub fn run_plain<S: Store, O: Sink>(
 }
 
 #[cfg(test)]
+mod size_tests;
+#[cfg(test)]
 mod solve_tests;
 #[cfg(test)]
 mod tests;
