@@ -2,6 +2,7 @@
 #![tactic(auto)]
 
 mod bytes;
+mod cert_kind;
 mod dir_store;
 mod fail;
 mod mem_sink;
@@ -13,6 +14,7 @@ mod threads;
 mod whole_file;
 
 pub use bytes::Bytes;
+pub use cert_kind::CertKind;
 pub use dir_store::DirStore;
 pub use fail::{SinkFail, StoreFail};
 pub use mem_sink::MemSink;
