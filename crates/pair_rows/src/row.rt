@@ -3,6 +3,7 @@ ghost use Rattle.std.specs.Prelude.{◌≡◌, IfOk};
 
 use cross_bound::Side;
 use edge_table::{Edge, Rounds};
+use item_list::Copied;
 use rup_check::Log;
 use std::alloc::AllocError;
 
@@ -91,5 +92,11 @@ impl Row {
             evidence: self.evidence.copy()?,
             end: self.end.copy()?,
         })
+    }
+}
+
+impl Copied for Row {
+    fn copy(&self) -> Result<Row, AllocError> {
+        Row::copy(self)
     }
 }
