@@ -11,4 +11,6 @@ mod threads;
 pub use search::{Answer, solve};
 
 #[cfg(test)]
+mod learning_tests;
+#[cfg(test)]
 mod tests;

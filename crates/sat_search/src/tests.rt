@@ -27,7 +27,7 @@ fn clause(alloc: Global, vars: u32, lits: &[i32]) -> Result<Option<Clause>, Allo
 }
 
 // Adds a clause of signed variables that ascend.
-fn add(alloc: Global, cnf: &mut Cnf, lits: &[i32]) -> Result<(), Fail> {
+pub(crate) fn add(alloc: Global, cnf: &mut Cnf, lits: &[i32]) -> Result<(), Fail> {
     if let Some(made) = clause(alloc, cnf.vars(), lits)? {
         if cnf.len() < 1000 {
             cnf.add(made)?;
@@ -69,7 +69,11 @@ fn satisfies(cnf: &Cnf, truth: &Truth) -> bool {
 }
 
 // What a search comes to: its kind, how many lines or values there are, and whether they are right.
-fn told(alloc: Global, cnf: &Cnf, budget: u64) -> Result<(&'static str, usize, bool), Fail> {
+pub(crate) fn told(
+    alloc: Global,
+    cnf: &Cnf,
+    budget: u64,
+) -> Result<(&'static str, usize, bool), Fail> {
     if cnf.len() > 400_000 || budget > 1_000_000 {
         return Ok(("", 0, false));
     }
