@@ -40,3 +40,6 @@ fn main(rt: HostRuntime) -> io::Result<()> {
     show(&rt, alloc, 16)?;
     Ok(())
 }
+
+#[cfg(test)]
+mod handing_tests;
