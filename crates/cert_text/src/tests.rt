@@ -1,5 +1,5 @@
 // The texts of two certificates, and the first faults of texts that differ from the first one in a little.
-ghost use Rattle.std.specs.Prelude.{◌<◌, ◌≤◌, IfOk};
+ghost use Rattle.std.specs.Prelude.{◌≡◌, ◌<◌, ◌≤◌, IfOk};
 ghost use Rattle.cert_text.specs.Certs.{HasEdge, IsWritable, RowFromOne};
 
 use super::*;
@@ -147,10 +147,28 @@ fn fault_at(line: u64, kind: CertKind) -> Option<CertReadFault> {
     Some(CertReadFault::Cert(CertFault { line, kind }))
 }
 
-// The text of the certificate that a text spells.
+// An equal certificate, with copies of all that takes memory.
+fn copied(cert: &Cert) -> Result<Cert, AllocError>
+    ensures { IfOk result (λ made. made ≡ cert.now) }
+{
+    Ok(Cert {
+        version: cert.version,
+        uid: cert.uid.copy()?,
+        inputs: cert.inputs,
+        copies: cert.copies,
+        opening: cert.opening,
+        total: cert.total,
+        bound: cert.bound,
+        journal: cert.journal.copy()?,
+        rows: cert.rows.copy()?,
+        perm: cert.perm.copy()?,
+    })
+}
+
+// The text of a copy of the certificate that a text spells.
 fn written_again(alloc: Global, text: &str) -> Option<Bytes> {
     let cert = read_cert(alloc, text.as_bytes()).ok()?;
-    write_cert(alloc, &cert).ok()
+    write_cert(alloc, &copied(&cert).ok()?).ok()
 }
 
 #[test]
