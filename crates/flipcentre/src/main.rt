@@ -1,19 +1,8 @@
 //! `flipcentre`: a solver, prover and checker for central triangulation under parallel edge flips.
 #![tactic(auto)]
 
-mod checking;
-mod ending;
-mod lines;
-mod reply;
-mod run;
-mod scoring;
-mod solution_lines;
-mod solving;
-mod status;
-
-use ending::end_number;
+use centre_run::{Status, end_number};
 use host_io::{DirStore, StdSink};
-use status::Status;
 use std::process::ExitCode;
 use std::{env, io};
 

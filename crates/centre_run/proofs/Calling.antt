@@ -1,0 +1,76 @@
+-- How often commands call the store.
+use Rattle.std.proofs.Common.{◌≡◌, subst, sym, ℕ, List, [], ◌∷◌, Option, inl, inr}
+use Rattle.host_io.specs.Store.{Held, one_more}
+use Rattle.centre_run.specs.declared.status.Status.{Status}
+use Rattle.centre_run.specs.declared.status.Status.TheVariants.{Done, Words, Refused, FlipBudget, Memory, ReadFault, WriteFault, No}
+use Rattle.centre_words.specs.declared.asked.Asked.{Asked}
+use Rattle.centre_words.specs.declared.asked.Asked.TheVariants.{Check, Score, Solve}
+use Rattle.centre_words.specs.Words.{Asks}
+use Rattle.centre_words.proofs.Meets.{words_ask_once}
+use Rattle.centre_run.specs.declared.solving.SolveOptions.{SolveOptions}
+use Rattle.plan_solve.specs.declared.order.Order.{Order}
+use Rattle.solution_json.specs.declared.solution.Solution.{Solution}
+use Rattle.tri_check.specs.Problems.{Problem}
+use Rattle.centre_run.specs.Orders.{order_of}
+use Rattle.centre_run.specs.Runs.{ScoreSays, SolveSays, OrderSays, SolutionSays, CommandDoes}
+use Rattle.centre_run.specs.Calls.{after_calling, after_writing, CallsFor, CommandCalls}
+
+-- what holds of the command that words ask for holds of any
+pub of_asked : (words : List (List ℕ)) (P : Asked → Type 0) (c : Asked) → Asks words c → P c → (d : Asked) → Asks words d → P d
+of_asked words P c asks p d other = subst P (words_ask_once words c d asks other) p
+
+pub check_calls : (old new : Option Held) (name : List ℕ) (status : Status) (line : List ℕ) (before now : ℕ) → CommandDoes old new (Check name) status line → now ≡ one_more before → CallsFor (Check name) status before now
+check_calls old new name Done line before now does is = is
+check_calls old new name Refused line before now does is = is
+check_calls old new name Words line before now (files, (bytes, held, says, none), written) is = absurd says
+check_calls old new name FlipBudget line before now (files, (bytes, held, says, none), written) is = absurd says
+check_calls old new name Memory line before now (files, (bytes, held, says, none), written) is = absurd says
+check_calls old new name ReadFault line before now (files, (bytes, held, says, none), written) is = absurd says
+check_calls old new name WriteFault line before now (files, (bytes, held, says, none), written) is = absurd says
+check_calls old new name No line before now (files, (bytes, held, says, none), written) is = absurd says
+
+scored_calls : (instance : Problem) (solution : Solution) (c : Asked) (status : Status) (line : List ℕ) (before now : ℕ) → SolutionSays instance solution status line → CallsFor c Done before now → CallsFor c Refused before now → CallsFor c status before now
+scored_calls instance solution c Done line before now says done refused = done
+scored_calls instance solution c Refused line before now says done refused = refused
+scored_calls instance solution c Words line before now says done refused = absurd says
+scored_calls instance solution c FlipBudget line before now says done refused = absurd says
+scored_calls instance solution c Memory line before now says done refused = absurd says
+scored_calls instance solution c ReadFault line before now says done refused = absurd says
+scored_calls instance solution c WriteFault line before now says done refused = absurd says
+scored_calls instance solution c No line before now says done refused = absurd says
+
+pub score_calls : (bytes others first second : List ℕ) (status : Status) (line : List ℕ) (before now : ℕ) → ScoreSays bytes others status line
+    → now ≡ after_calling (first ∷ second ∷ []) before → CallsFor (Score first second) status before now
+score_calls bytes others first second status line before now (inl (refused, names)) is =
+    subst (λ s. CallsFor (Score first second) s before now) (sym refused) is
+score_calls bytes others first second status line before now (inr (instance, solution, spells, lists, says)) is =
+    scored_calls instance solution (Score first second) status line before now says is is
+
+ordered_calls : (instance : Problem) (order : Order) (name target : List ℕ) (options : SolveOptions) (status : Status) (line : List ℕ) (text : Option (List ℕ)) (before now : ℕ) → OrderSays instance order status line text
+    → now ≡ after_writing text (one_more before) → CallsFor (Solve name target options.turns options.seed options.flips) status before now
+ordered_calls instance order name target options Done line text before now (solution, found, told, is) calls = subst (λ t. now ≡ after_writing t (one_more before)) is calls
+ordered_calls instance order name target options FlipBudget line text before now (t, over, told, is) calls = subst (λ t. now ≡ after_writing t (one_more before)) is calls
+ordered_calls instance order name target options Refused line text before now says calls = absurd says
+ordered_calls instance order name target options Words line text before now says calls = absurd says
+ordered_calls instance order name target options Memory line text before now says calls = absurd says
+ordered_calls instance order name target options ReadFault line text before now says calls = absurd says
+ordered_calls instance order name target options WriteFault line text before now says calls = absurd says
+ordered_calls instance order name target options No line text before now says calls = absurd says
+
+pub solve_calls : (bytes name target : List ℕ) (options : SolveOptions) (status : Status) (line : List ℕ) (text : Option (List ℕ)) (before now : ℕ) → SolveSays bytes options status line text
+    → now ≡ after_writing text (one_more before) → CallsFor (Solve name target options.turns options.seed options.flips) status before now
+solve_calls bytes name target options status line text before now (inl (refused, names, none)) calls =
+    subst (λ s. CallsFor (Solve name target options.turns options.seed options.flips) s before now) (sym refused) (subst (λ t. now ≡ after_writing t (one_more before)) none calls)
+solve_calls bytes name target options status line text before now (inr (instance, spells, says)) calls =
+    ordered_calls instance (order_of instance options) name target options status line text before now says calls
+
+-- a command that says a status ends with it
+pub said_calls : (held : Option Held) (Failed : Type 0) (c : Asked) (status : Status) (before now : ℕ) → CallsFor c status before now → CommandCalls held Failed c status before now
+said_calls held Failed c Done before now is = is
+said_calls held Failed c Refused before now is = is
+said_calls held Failed c FlipBudget before now is = is
+said_calls held Failed c Words before now is = is
+said_calls held Failed c No before now is = is
+said_calls held Failed c Memory before now is = absurd is
+said_calls held Failed c ReadFault before now is = absurd is
+said_calls held Failed c WriteFault before now is = absurd is

@@ -1,0 +1,162 @@
+-- What the commands let a run say.
+use Rattle.std.proofs.Common.{◌≡◌, ◌≢◌, ◌∙◌, inl, inr, sym, ap, ap₂, refl, subst, ℕ, false, cond, List, [], ◌∷◌, length, take, Option, Some, None, Ok, Err, arith}
+use Rattle.std.specs.Prelude.{All, Result, IsErrOf}
+use Rattle.std.specs.FinMap as map
+use Rattle.std.specs.FinMap.{nat_cmp-IsAntisymmetric, slice_cmp-IsAntisymmetric}
+use Rattle.std.specs.declared.cmp.Ordering.{Ordering}
+use Rattle.std.specs.declared.cmp.Ordering.TheVariants.{Less, Equal, Greater}
+use Rattle.std.specs.Ordering.{nat_cmp, is_eq}
+use Rattle.std.specs.Cmp.Lexicographic.{slice_cmp, nat_list_cmp_total}
+use Rattle.std.proofs.lemmas.List.Elements.{All-nil, All-cons, All-head, All-tail}
+use Rattle.std.proofs.lemmas.Slice.Zip.{AllZip-long}
+use Rattle.instance_json.specs.Faults.{HasForm}
+use Rattle.instance_json.specs.Forms.{Spells}
+use Rattle.tri_check.specs.declared.raw.RawInstance.{RawInstance}
+use Rattle.tri_check.specs.Accepted.{IsAccepted}
+use Rattle.tri_check.specs.Problems.{Problem}
+use Rattle.centre_run.specs.declared.status.Status.{Status}
+use Rattle.centre_run.specs.declared.status.Status.TheVariants.{Done, Words}
+use Rattle.host_io.specs.Store.{Held, Writes}
+use Rattle.host_io.specs.declared.fail.StoreFail.TheVariants.{Failed}
+use Rattle.host_io.specs.Sink.{Takes}
+use Rattle.host_io.specs.declared.fail.SinkFail.{SinkFail}
+use Rattle.centre_words.specs.declared.asked.Asked.{Asked}
+use Rattle.centre_words.specs.declared.asked.Asked.TheVariants.{Check, Score, Solve}
+use Rattle.centre_words.specs.Words.{Asks, IsUnasked}
+use Rattle.centre_run.specs.declared.solving.SolveOptions.{SolveOptions}
+use Rattle.centre_run.specs.Lines.{valid_line, words_line}
+use Rattle.centre_run.specs.Runs.{MayHold, CheckSays, ScoreSays, SolveSays, Files, file_under, CommandSays, CommandDoes, CommandBreaksOff, Says, AreWritten, HasWritten, AreCutOff, HasBrokenOff, Does, BreaksOff, LeavesName, KeepsOthers, IsTold, IsCutOff, TellsPart}
+
+pub accepted_says : (bytes : List ℕ) (raw : RawInstance) (problem : Problem) (status : Status) (line : List ℕ) → HasForm bytes → Spells bytes raw
+    → IsAccepted raw.uid raw.points raw.inputs raw.weights problem → status ≡ Done → line ≡ valid_line (length problem.points) (length problem.inputs)
+    → CheckSays bytes status line
+accepted_says bytes raw problem status line form spells accepted done told =
+    subst (λ s. CheckSays bytes s line) (sym done)
+    (raw, (form, spells, accepted.valid), told ∙ ap₂ valid_line (ap (λ ps. length ps) accepted.points) (AllZip-long _ raw.inputs problem.inputs accepted.inputs))
+
+-- what a command says and writes that the words ask for, the run says and writes
+pub command_does : (words : List (List ℕ)) (old new : Option Held) (c : Asked) (status : Status) (line : List ℕ) → Asks words c → CommandDoes old new c status line → Does words old new status line
+command_does words old new c status line asks (files, says, written) = (files, inr (c, asks, inl says), written)
+
+pub command_breaks_off : (words : List (List ℕ)) (old new : Option Held) (c : Asked) → Asks words c → CommandBreaksOff old new c → BreaksOff words old new
+command_breaks_off words old new c asks (status, line, files, says, broken) = (status, line, files, inr (c, asks, inl says), broken)
+
+-- no file is written where what is held stays
+pub nothing_written : (old new : Option Held) → new ≡ old → HasWritten old new []
+nothing_written None new same = same
+nothing_written (Some held) new same = (held, same, refl)
+
+-- what a command says that writes nothing
+pub check_does : (old new : Option Held) (name bytes : List ℕ) (status : Status) (line : List ℕ) → MayHold old name bytes → new ≡ old → CheckSays bytes status line → CommandDoes old new (Check name) status line
+check_does old new name bytes status line held same says = ([], (bytes, held, says, refl), nothing_written old new same)
+
+pub score_does : (old new : Option Held) (first second bytes others : List ℕ) (status : Status) (line : List ℕ) → MayHold old first bytes → MayHold old second others → new ≡ old → ScoreSays bytes others status line
+    → CommandDoes old new (Score first second) status line
+score_does old new first second bytes others status line held here same says = ([], (bytes, others, held, here, says, refl), nothing_written old new same)
+
+-- what the words of no command let a run say
+pub words_does : (words : List (List ℕ)) (old new : Option Held) (status : Status) (line : List ℕ) → IsUnasked words → new ≡ old → status ≡ Words → line ≡ words_line → Does words old new status line
+words_does words old new status line unasked same is told = ([], inl (unasked, is, told, refl), nothing_written old new same)
+
+-- what `solve` says and writes
+pub solve_does : (old mid new : Option Held) (name target bytes : List ℕ) (options : SolveOptions) (status : Status) (line : List ℕ) (text : Option (List ℕ)) → MayHold old name bytes → mid ≡ old → SolveSays bytes options status line text
+    → HasWritten mid new (file_under target text) → CommandDoes old new (Solve name target options.turns options.seed options.flips) status line
+solve_does old mid new name target bytes options status line text held same says written =
+    (file_under target text, (bytes, text, held, says, refl), subst (λ before. HasWritten before new (file_under target text)) same written)
+
+pub solve_breaks_off : (old mid new : Option Held) (name target bytes : List ℕ) (options : SolveOptions) (status : Status) (line : List ℕ) (text : Option (List ℕ)) → MayHold old name bytes → mid ≡ old → SolveSays bytes options status line text
+    → HasBrokenOff mid new (file_under target text) → CommandBreaksOff old new (Solve name target options.turns options.seed options.flips)
+solve_breaks_off old mid new name target bytes options status line text held same says broken =
+    (status, line, file_under target text, (bytes, text, held, says, refl), subst (λ before. HasBrokenOff before new (file_under target text)) same broken)
+
+-- one file that was written, or broke off
+pub written_one : (old new : Option Held) (name bytes : List ℕ) (done : Unit {0}) → Writes old new name bytes (Ok done) → HasWritten old new ((name, bytes) ∷ [])
+written_one None new name bytes done writes = writes.0
+written_one (Some held) new name bytes done (later, is, told) = (later, is, told)
+
+pub broken_one : (old new : Option Held) (name bytes : List ℕ) → Writes old new name bytes (Err Failed) → HasBrokenOff old new ((name, bytes) ∷ [])
+broken_one None new name bytes writes = writes.0
+broken_one (Some held) new name bytes (later, is, leaves) = (later, is, inl leaves)
+
+-- an error is one, whatever is answered where there is none
+pub is_error : {T U E : Type 0} (r : Result T E) (e f : E) → r ≡ Err e → IsErrOf r f → IsErrOf {T = U} (Err e) f
+is_error {T} {U} {E} r e f is err = ap (λ x. Err x) (ap (λ (x : Result T E). elim x [ Ok y ↦ e | Err y ↦ y ]) (sym is ∙ err))
+
+-- ---- the names that aren't written
+
+-- bytes under another name change nothing under this one
+other_name : (held : Held) (name other bytes : List ℕ) → (name ≢ other) → map.get (map.insert held other bytes) name ≡ map.get held name
+other_name held name other bytes differ =
+    map.get-insert nat_list_cmp_total held other bytes name
+    ∙ ap (λ test. cond test (Some bytes) (map.get held name)) (untied (slice_cmp nat_cmp name other) refl)
+  where
+    untied : (o : Ordering) → o ≡ slice_cmp nat_cmp name other → is_eq o ≡ false
+    untied Less e = refl
+    untied Equal e = absurd (differ (slice_cmp-IsAntisymmetric nat_cmp-IsAntisymmetric name other (sym e)))
+    untied Greater e = refl
+
+module _ (name : List ℕ) where
+  abbrev AreOthers : Files → Type 0
+  AreOthers files = All (λ file. name ≢ file.0) files
+
+  written_keeps : (old new : Held) (files : Files) → AreOthers files → AreWritten old new files → map.get new name ≡ map.get old name
+  written_keeps old new [] others is = ap (λ held. map.get held name) is
+  written_keeps old new (file ∷ files) others is =
+      written_keeps (map.insert old file.0 file.1) new files (All-tail (λ f. name ≢ f.0) file files others) is
+      ∙ other_name old name file.0 file.1 (All-head (λ f. name ≢ f.0) file files others)
+
+  broken_keeps : (old new : Held) (files : Files) → AreOthers files → AreCutOff old new files → map.get new name ≡ map.get old name
+  broken_keeps old new [] others is = absurd is
+  broken_keeps old new (file ∷ files) others (inl (inl same)) = ap (λ held. map.get held name) same
+  broken_keeps old new (file ∷ files) others (inl (inr (n, is))) =
+      ap (λ held. map.get held name) is ∙ other_name old name file.0 (take n file.1) (All-head (λ f. name ≢ f.0) file files others)
+  broken_keeps old new (file ∷ files) others (inr is) =
+      broken_keeps (map.insert old file.0 file.1) new files (All-tail (λ f. name ≢ f.0) file files others) is
+      ∙ other_name old name file.0 file.1 (All-head (λ f. name ≢ f.0) file files others)
+
+  no_file : (files : Files) → files ≡ [] → AreOthers files
+  no_file files none = subst AreOthers (sym none) (All-nil (λ file. name ≢ file.0))
+
+  target_file : (target : List ℕ) (text : Option (List ℕ)) → name ≢ target → AreOthers (file_under target text)
+  target_file target None differ = All-nil (λ file. name ≢ file.0)
+  target_file target (Some text) differ = All-cons (λ file. name ≢ file.0) (target, text) [] differ (All-nil (λ file. name ≢ file.0))
+
+  command_others : (words : List (List ℕ)) (held : Option Held) (c : Asked) (status : Status) (line : List ℕ) (files : Files) → LeavesName words name → Asks words c → CommandSays held c status line files → AreOthers files
+  command_others words held (Check i) status line files leaves asks (bytes, there, says, none) = no_file files none
+  command_others words held (Score i s) status line files leaves asks (bytes, others, there, here, says, none) = no_file files none
+  command_others words held (Solve i target turns seed flips) status line files leaves asks (bytes, text, there, says, is) =
+      subst AreOthers (sym is) (target_file target text (λ same. leaves (Solve i target turns seed flips) asks (0, omega arith, sym same)))
+
+  others_said : (words : List (List ℕ)) (held : Option Held) (status : Status) (line : List ℕ) (files : Files) → LeavesName words name → Says words held status line files → AreOthers files
+  others_said words held status line files leaves (inl (unasked, is, told, none)) = no_file files none
+  others_said words held status line files leaves (inr (c, asks, inl says)) = command_others words held c status line files leaves asks says
+  others_said words held status line files leaves (inr (c, asks, inr (lacks, is, told, none))) = no_file files none
+
+module _ (words : List (List ℕ)) where
+  pub same_keeps : (old new : Option Held) → new ≡ old → KeepsOthers words old new
+  same_keeps None new same = same
+  same_keeps (Some held) new same = (held, same, λ name leaves. refl)
+
+  pub done_keeps : (old new : Option Held) (status : Status) (line : List ℕ) → Does words old new status line → KeepsOthers words old new
+  done_keeps None new status line (files, says, written) = written
+  done_keeps (Some held) new status line (files, says, (later, is, written)) =
+      (later, is, λ name leaves. written_keeps name held later files (others_said name words (Some held) status line files leaves says) written)
+
+  pub broken_off_keeps : (old new : Option Held) → BreaksOff words old new → KeepsOthers words old new
+  broken_off_keeps None new (status, line, files, says, broken) = broken
+  broken_off_keeps (Some held) new (status, line, files, says, (later, is, broken)) =
+      (later, is, λ name leaves. broken_keeps name held later files (others_said name words (Some held) status line files leaves says) broken)
+
+-- a run that says a status, and of whose line only a part was told
+pub cut_part : (words : List (List ℕ)) (held later : Option Held) (status : Status) (line : List ℕ) (old new : Option (List ℕ)) → Does words held later status line → IsCutOff old new line → TellsPart words held later old new
+cut_part words held later status line old new does cut = inl (status, line, does, cut)
+
+-- a put that took all told the line
+pub told_whole : (old new : Option (List ℕ)) (line : List ℕ) (done : Unit {0}) → Takes old new line (Ok done) → IsTold old new line
+told_whole None new line done takes = takes
+told_whole (Some old) new line done (later, is, added) = is ∙ ap (λ bytes. Some bytes) added
+
+-- a put that failed cut the line off
+pub cut_off : (old new : Option (List ℕ)) (line : List ℕ) (e : SinkFail) → Takes old new line (Err e) → IsCutOff old new line
+cut_off None new line e takes = takes
+cut_off (Some old) new line e (later, is, (n, less, taken)) = (n, less, is ∙ ap (λ bytes. Some bytes) taken)

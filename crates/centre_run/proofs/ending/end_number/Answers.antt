@@ -1,0 +1,27 @@
+use Rattle.centre_run.proofs.ending.end_number.Goals as goal
+
+pub returns : goal.returns
+returns g c =
+    let run = c.run_plain.ensures in (
+      c.run_plain.result,
+      c.number.ensures,
+      record {
+        done = run.done;
+        words_refused = run.words;
+        refused = run.refused;
+        budget = run.budget;
+        no_certificate = run.no_certificate;
+        memory = λ is. (run.memory is, run.memory_kept is);
+        read_fault = run.read_fault;
+        read_fault_kept = λ is. (run.read_fault_told is, run.read_fault_kept is);
+        write_fault = run.write_fault;
+        write_fault_told = run.write_fault_told;
+        complete = run.complete;
+        words_decide = run.words_decide;
+        kept = run.kept;
+        read_only = run.read_only;
+        calls = run.calls;
+        in_order = run.in_order;
+        uncalled = run.uncalled;
+      },
+    )

@@ -1,0 +1,82 @@
+use Rattle.std.proofs.Common.{◌≡◌, inl, ap, subst, string_bytes, Err}
+use Rattle.centre_words.specs.Words.{texts}
+use Rattle.centre_run.specs.Runs.{Says, Does, HasReadCause, IsTold, IsCutOff}
+use Rattle.centre_run.proofs.Once.{says_once, read_fault_says}
+use Rattle.centre_run.proofs.Saying.{same_keeps, done_keeps, broken_off_keeps, told_whole, cut_off, cut_part}
+use Rattle.centre_run.proofs.Calling.{said_calls}
+use Rattle.centre_run.proofs.run.run_plain.Goals as goal
+
+pub returns-in-Err-Memory-clause-kept : goal.returns-in-Err-Memory-clause-kept
+returns-in-Err-Memory-clause-kept g c =
+    same_keeps (texts c.args.words.now) (g.S.Store.held c.args.store.now) (g.S.Store.held c.reply_to.new.store) (c.in-Err-Memory.ensures.memory (ap (λ e. Err e) c.in-Err-Memory.field-0-is))
+
+pub returns-in-Err-ReadFault-clause-complete : goal.returns-in-Err-ReadFault-clause-complete
+returns-in-Err-ReadFault-clause-complete g c = λ told status line files is says faultless.
+    let words = texts c.args.words.now in
+    let before = g.S.Store.read_faults c.args.store.now in
+    let now = g.S.Store.read_faults c.reply_to.new.store in
+    let cause = c.in-Err-ReadFault.ensures.cause (ap (λ e. Err e) c.in-Err-ReadFault.field-0-is) in
+    inl (read_fault_says words told status line files before now (subst (λ held. HasReadCause words held before now) is cause) faultless.reads says)
+
+pub returns-in-Err-ReadFault-clause-kept : goal.returns-in-Err-ReadFault-clause-kept
+returns-in-Err-ReadFault-clause-kept g c =
+    same_keeps (texts c.args.words.now) (g.S.Store.held c.args.store.now) (g.S.Store.held c.reply_to.new.store) (c.in-Err-ReadFault.ensures.unread (ap (λ e. Err e) c.in-Err-ReadFault.field-0-is))
+
+pub returns-in-Err-WriteFault-clause-words_decide : goal.returns-in-Err-WriteFault-clause-words_decide
+returns-in-Err-WriteFault-clause-words_decide g c = λ unasked faultless. absurd (c.in-Err-WriteFault.ensures.asked_to_write (ap (λ e. Err e) c.in-Err-WriteFault.field-0-is) unasked)
+
+pub returns-in-Err-WriteFault-clause-kept : goal.returns-in-Err-WriteFault-clause-kept
+returns-in-Err-WriteFault-clause-kept g c =
+    broken_off_keeps (texts c.args.words.now) (g.S.Store.held c.args.store.now) (g.S.Store.held c.reply_to.new.store) (c.in-Err-WriteFault.ensures.broken (ap (λ e. Err e) c.in-Err-WriteFault.field-0-is))
+
+pub returns-in-Err-clause-write_fault_told : goal.returns-in-Err-clause-write_fault_told
+returns-in-Err-clause-write_fault_told g c = λ _.
+    let reply = c.in-Ok.reply in
+    let old = g.O.Sink.told c.args.out.now in
+    let new = g.O.Sink.told c.put_all.new.out in
+    let bytes : c.as_bytes.result.now ≡ string_bytes reply.line = c.as_bytes.ensures.value in
+    let cut = cut_off old new c.as_bytes.result.now c.in-Err.field-0 c.in-Err.ensures.told in
+    cut_part (texts c.args.words.now) (g.S.Store.held c.args.store.now) (g.S.Store.held c.reply_to.new.store) reply.status (string_bytes reply.line) old new c.in-Ok.ensures.does (subst (λ line. IsCutOff old new line) bytes cut)
+
+pub returns-in-Err-clause-kept : goal.returns-in-Err-clause-kept
+returns-in-Err-clause-kept g c =
+    done_keeps (texts c.args.words.now) (g.S.Store.held c.args.store.now) (g.S.Store.held c.reply_to.new.store) c.in-Ok.reply.status (string_bytes c.in-Ok.reply.line) c.in-Ok.ensures.does
+
+pub returns-clause-done : goal.returns-clause-done
+returns-clause-done g c = λ is.
+    let line = string_bytes c.in-Ok.reply.line in (
+      line,
+      subst (λ s. Does (texts c.args.words.now) (g.S.Store.held c.args.store.now) (g.S.Store.held c.reply_to.new.store) s line) is c.in-Ok.ensures.does,
+      subst (λ text. IsTold (g.O.Sink.told c.args.out.now) (g.O.Sink.told c.put_all.new.out) text) c.as_bytes.ensures.value (told_whole (g.O.Sink.told c.args.out.now) (g.O.Sink.told c.put_all.new.out) c.as_bytes.result.now c.in-Ok-put_all.field-0 c.in-Ok-put_all.ensures.told),
+    )
+
+pub returns-clause-refused : goal.returns-clause-refused
+returns-clause-refused g c = λ is.
+    let line = string_bytes c.in-Ok.reply.line in (
+      line,
+      subst (λ s. Does (texts c.args.words.now) (g.S.Store.held c.args.store.now) (g.S.Store.held c.reply_to.new.store) s line) is c.in-Ok.ensures.does,
+      subst (λ text. IsTold (g.O.Sink.told c.args.out.now) (g.O.Sink.told c.put_all.new.out) text) c.as_bytes.ensures.value (told_whole (g.O.Sink.told c.args.out.now) (g.O.Sink.told c.put_all.new.out) c.as_bytes.result.now c.in-Ok-put_all.field-0 c.in-Ok-put_all.ensures.told),
+    )
+
+pub returns-clause-budget : goal.returns-clause-budget
+returns-clause-budget g c = λ is.
+    let line = string_bytes c.in-Ok.reply.line in (
+      line,
+      subst (λ s. Does (texts c.args.words.now) (g.S.Store.held c.args.store.now) (g.S.Store.held c.reply_to.new.store) s line) is c.in-Ok.ensures.does,
+      subst (λ text. IsTold (g.O.Sink.told c.args.out.now) (g.O.Sink.told c.put_all.new.out) text) c.as_bytes.ensures.value (told_whole (g.O.Sink.told c.args.out.now) (g.O.Sink.told c.put_all.new.out) c.as_bytes.result.now c.in-Ok-put_all.field-0 c.in-Ok-put_all.ensures.told),
+    )
+
+pub returns-clause-complete : goal.returns-clause-complete
+returns-clause-complete g c = λ told status line files is says faultless.
+    let words = texts c.args.words.now in
+    let reply = c.in-Ok.reply in
+    let does = c.in-Ok.ensures.does in
+    inl (says_once words told reply.status status (string_bytes reply.line) line does.0 files (subst (λ held. Says words held reply.status (string_bytes reply.line) does.0) is does.1) says)
+
+pub returns-clause-kept : goal.returns-clause-kept
+returns-clause-kept g c =
+    done_keeps (texts c.args.words.now) (g.S.Store.held c.args.store.now) (g.S.Store.held c.reply_to.new.store) c.in-Ok.reply.status (string_bytes c.in-Ok.reply.line) c.in-Ok.ensures.does
+
+pub returns-clause-in_order : goal.returns-clause-in_order
+returns-clause-in_order g c = λ d asks.
+    said_calls (g.S.Store.held c.args.store.now) _ d c.in-Ok.reply.status _ _ (c.in-Ok.ensures.called d asks)

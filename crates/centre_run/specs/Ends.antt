@@ -1,0 +1,40 @@
+-- All that is promised of a run that ends with a status: the clauses of the top call in one.
+use Rattle.std.specs.Prelude.{◌≡◌, ◌≢◌, ◌⊎◌, ℕ, List, Option}
+use Rattle.host_io.specs.Store.{Held, Rose}
+use Rattle.centre_run.specs.declared.status.Status.{Status}
+use Rattle.centre_run.specs.declared.status.Status.TheVariants.{Done, Words, Refused, FlipBudget, Memory, ReadFault, WriteFault, No}
+use Rattle.centre_words.specs.Words.{IsUnasked}
+use Rattle.centre_run.specs.Runs.{KeepsOthers, IsReadOnly, HasReadCause, CallsOnce, IsFaultless, Completes, Tells, TellsPart}
+use Rattle.centre_run.specs.Calls.{CallsInOrder}
+
+-- what is known of a store at one time
+pub record StoreSeen : Type 0 where
+  pub held : Option Held
+  pub read_faults : ℕ
+  pub write_faults : ℕ
+  pub calls : ℕ
+
+-- what is known of a sink at one time
+pub record SinkSeen : Type 0 where
+  pub told : Option (List ℕ)
+  pub faults : ℕ
+
+-- from a store and a sink as they were to what they are now
+pub record IsEnd (words : List (List ℕ)) (old new : StoreSeen) (before now : SinkSeen) (status : Status) : Type 0 where
+  pub done : status ≡ Done → Tells words old.held new.held Done before.told now.told
+  pub words_refused : status ≡ Words → Tells words old.held new.held Words before.told now.told
+  pub refused : status ≡ Refused → Tells words old.held new.held Refused before.told now.told
+  pub budget : status ≡ FlipBudget → Tells words old.held new.held FlipBudget before.told now.told
+  pub no_certificate : status ≢ No
+  pub memory : status ≡ Memory → (now.told ≡ before.told) × (new.held ≡ old.held)
+  pub read_fault : status ≡ ReadFault → HasReadCause words old.held old.read_faults new.read_faults
+  pub read_fault_kept : status ≡ ReadFault → (now.told ≡ before.told) × (new.held ≡ old.held)
+  pub write_fault : status ≡ WriteFault → Rose old.write_faults new.write_faults ⊎ Rose before.faults now.faults
+  pub write_fault_told : status ≡ WriteFault → TellsPart words old.held new.held before.told now.told
+  pub complete : Completes words old.held (IsFaultless old.read_faults new.read_faults old.write_faults new.write_faults before.faults now.faults) status
+  pub words_decide : IsUnasked words → ¬ Rose before.faults now.faults → (status ≡ Words) ⊎ (status ≡ Memory)
+  pub kept : KeepsOthers words old.held new.held
+  pub read_only : IsReadOnly words → new.write_faults ≡ old.write_faults
+  pub calls : CallsOnce words old.calls new.calls
+  pub in_order : CallsInOrder words old.held (Rose old.read_faults new.read_faults) status old.calls new.calls
+  pub uncalled : IsUnasked words → new.calls ≡ old.calls

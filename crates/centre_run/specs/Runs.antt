@@ -1,0 +1,270 @@
+-- What a run of the program says of the files that its words name.
+use Rattle.std.specs.Prelude.{◌≡◌, ◌≢◌, ◌⊎◌, ℕ, ◌+◌, ◌<◌, ◌≤◌, List, [], ◌∷◌, ◌++◌, take, length, Option, Some, None, Contains}
+use Rattle.std.specs.FinMap as map
+use Rattle.host_io.specs.Store.{Held, Rose, Leaves}
+use Rattle.instance_json.specs.declared.fault.Form.{Form}
+use Rattle.instance_json.specs.Faults.{HasForm, IsFirstFormFault}
+use Rattle.instance_json.specs.Forms.{Spells}
+use Rattle.tri_check.specs.declared.fault.Bad.{Bad}
+use Rattle.tri_check.specs.declared.raw.RawInstance.{RawInstance}
+use Rattle.tri_check.specs.Faults.{IsFirstFault, IsValid}
+use Rattle.tri_check.specs.Accepted.{IsAccepted}
+use Rattle.tri_check.specs.Problems.{Problem, IsProblem}
+use Rattle.edge_table.specs.declared.edge.Edge.{Edge}
+use Rattle.tri_theory.specs.Rounds.{IsPlan, total}
+use Rattle.solution_json.specs.declared.fault.SolForm.{SolForm}
+use Rattle.solution_json.specs.declared.solution.Solution.{Solution}
+use Rattle.solution_json.specs.Faults.{IsFirstSolFault}
+use Rattle.solution_json.specs.Texts.{text_of}
+use Rattle.solution_json.specs.Faults as solution_fault
+use Rattle.solution_json.specs.Forms as solution_form
+use Rattle.replay.specs.declared.fault.ScoreFault.{ScoreFault}
+use Rattle.replay.specs.declared.fault.ScoreFault.TheVariants.{OutOfMemory}
+use Rattle.replay.specs.Scores.{IsScoreFault, AreAllDistinct}
+use Rattle.centre_run.specs.declared.status.Status.{Status}
+use Rattle.centre_run.specs.declared.status.Status.TheVariants.{Done, Words, Refused, FlipBudget, Memory, ReadFault}
+use Rattle.centre_words.specs.declared.asked.Asked.{Asked}
+use Rattle.centre_words.specs.declared.asked.Asked.TheVariants.{Check, Score, Solve}
+use Rattle.centre_words.specs.Words.{Asks, IsUnasked}
+use Rattle.centre_run.specs.Lines.{words_line, valid_line, bad_line, form_line, total_line, solution_form_line, other_uid_line, score_fault_line, solved_line, budget_line}
+use Rattle.lawson_start.specs.Starts.{IsOverBudget}
+use Rattle.plan_law.specs.Plans.{Plan, schedules}
+use Rattle.plan_solve.specs.declared.order.Order.{Order}
+use Rattle.plan_solve.specs.Solves.{IsFoundPlan}
+use Rattle.centre_run.specs.declared.solving.SolveOptions.{SolveOptions}
+use Rattle.centre_run.specs.Orders.{order_of}
+
+-- ---- the files
+
+-- where the store tells what it holds, these bytes are held under the name. Where it doesn't tell, any may be
+abbrev pub MayHold : Option Held → List ℕ → List ℕ → Type 0
+MayHold None name bytes = Unit {0}
+MayHold (Some held) name bytes = map.get held name ≡ Some bytes
+
+-- the store tells what it holds, and the name isn't held
+abbrev pub IsUnheld : Option Held → List ℕ → Type 0
+IsUnheld None name = ⊥
+IsUnheld (Some held) name = map.get held name ≡ None
+
+-- ---- instances
+
+-- the bytes have the form of an instance, and spell a valid one
+abbrev pub SpellsValid : List ℕ → RawInstance → Type 0
+SpellsValid bytes raw = HasForm bytes × Spells bytes raw × IsValid raw.points raw.inputs raw.weights
+
+-- the line names the first fault of the bytes as an instance: one of their form, or else one of what they spell
+abbrev pub NamesInstanceFault : List ℕ → List ℕ → Type 0
+NamesInstanceFault bytes line =
+    ((form : Form) × IsFirstFormFault bytes form × (line ≡ form_line form))
+    ⊎ ((raw : RawInstance) × (bad : Bad) × Spells bytes raw × IsFirstFault raw.points raw.inputs raw.weights bad × (line ≡ bad_line bad))
+
+-- the bytes have the form of an instance and spell a valid one, which is this one
+pub record SpellsInstance (bytes : List ℕ) (instance : Problem) : Type 0 where
+  pub raw : RawInstance
+  pub valid : SpellsValid bytes raw
+  pub accepted : IsAccepted raw.uid raw.points raw.inputs raw.weights instance
+  pub problem : IsProblem instance.points instance.inputs
+
+-- ---- solutions
+
+-- the bytes have the form of a solution, and spell this one
+abbrev pub SpellsSolution : List ℕ → Solution → Type 0
+SpellsSolution bytes solution = solution_fault.HasForm bytes × solution_form.Spells bytes solution
+
+-- the solution is one of the instance, and its lists lead from the inputs, in order, to one centre; no round names an edge twice
+pub record IsSolved (instance : Problem) (solution : Solution) : Type 0 where
+  pub uid : solution.uid ≡ instance.uid
+  pub centre : List Edge
+  pub plan : IsPlan instance.points instance.inputs centre solution.lists
+  pub distinct : AreAllDistinct solution.lists
+
+-- the line names the first fault of a solution of the instance: its uid is another one, or else its lists have one
+abbrev pub NamesScoreFault : Problem → Solution → List ℕ → Type 0
+NamesScoreFault instance solution line =
+    ((solution.uid ≢ instance.uid) × (line ≡ other_uid_line))
+    ⊎ ((fault : ScoreFault) × (solution.uid ≡ instance.uid) × (fault ≢ OutOfMemory) × IsScoreFault instance.points instance.inputs solution.lists fault × (line ≡ score_fault_line fault))
+
+-- the total of a solution, or its first fault
+abbrev pub SolutionSays : Problem → Solution → Status → List ℕ → Type 0
+SolutionSays instance solution Done line = IsSolved instance solution × (line ≡ total_line (total instance.weights solution.lists))
+SolutionSays instance solution Refused line = NamesScoreFault instance solution line
+SolutionSays instance solution _ line = ⊥
+
+-- what is said of raw values and a solution: the first fault of the values, or what the solution says of the instance that they are
+abbrev pub RawSays : RawInstance → Solution → Status → List ℕ → Type 0
+RawSays raw solution status line =
+    ((bad : Bad) × (status ≡ Refused) × IsFirstFault raw.points raw.inputs raw.weights bad × (line ≡ bad_line bad))
+    ⊎ ((instance : Problem) × IsAccepted raw.uid raw.points raw.inputs raw.weights instance × IsProblem instance.points instance.inputs × SolutionSays instance solution status line)
+
+-- the line names the first fault of the form of the instance, or else of the form of the solution, or else of the instance
+abbrev pub NamesFileFault : List ℕ → List ℕ → List ℕ → Type 0
+NamesFileFault bytes others line =
+    ((form : Form) × IsFirstFormFault bytes form × (line ≡ form_line form))
+    ⊎ (((form : SolForm) × HasForm bytes × IsFirstSolFault others form × (line ≡ solution_form_line form))
+    ⊎ ((raw : RawInstance) × (bad : Bad) × solution_fault.HasForm others × Spells bytes raw × IsFirstFault raw.points raw.inputs raw.weights bad × (line ≡ bad_line bad)))
+
+-- the solution that `solve` writes: the schedules of the plan that is found. It is one that `score` accepts, and what its text spells
+pub record IsFound (instance : Problem) (order : Order) (solution : Solution) : Type 0 where
+  pub plan : Plan
+  pub found : IsFoundPlan instance order plan
+  pub lists : solution.lists ≡ schedules plan
+  pub solved : IsSolved instance solution
+  pub written : SpellsSolution (text_of solution) solution
+
+-- ---- the commands
+
+-- what `check` says of the bytes of a file: that they spell a valid instance, or their first fault
+abbrev pub CheckSays : List ℕ → Status → List ℕ → Type 0
+CheckSays bytes Done line = (raw : RawInstance) × SpellsValid bytes raw × (line ≡ valid_line (length raw.points) (length raw.inputs))
+CheckSays bytes Refused line = NamesInstanceFault bytes line
+CheckSays bytes _ line = ⊥
+
+-- what `score` says of the bytes of two files: the first fault of one of them, or what the solution says
+abbrev pub ScoreSays : List ℕ → List ℕ → Status → List ℕ → Type 0
+ScoreSays bytes others status line =
+    ((status ≡ Refused) × NamesFileFault bytes others line)
+    ⊎ ((instance : Problem) × (solution : Solution) × SpellsInstance bytes instance × SpellsSolution others solution × SolutionSays instance solution status line)
+
+-- what `solve` says of an instance, and the text that it writes, if one: a solution with its total, or the first input whose run is longer than is allowed
+abbrev pub OrderSays : Problem → Order → Status → List ℕ → Option (List ℕ) → Type 0
+OrderSays instance order Done line text = (solution : Solution) × IsFound instance order solution × (line ≡ solved_line (total instance.weights solution.lists) 0) × (text ≡ Some (text_of solution))
+OrderSays instance order FlipBudget line text = (t : ℕ) × IsOverBudget instance.points instance.inputs order.flips t × (line ≡ budget_line t) × (text ≡ None)
+OrderSays instance order _ line text = ⊥
+
+-- what `solve` says of the bytes of a file: their first fault, or what it says of the instance that they spell
+abbrev pub SolveSays : List ℕ → SolveOptions → Status → List ℕ → Option (List ℕ) → Type 0
+SolveSays bytes options status line text =
+    ((status ≡ Refused) × NamesInstanceFault bytes line × (text ≡ None))
+    ⊎ ((instance : Problem) × SpellsInstance bytes instance × OrderSays instance (order_of instance options) status line text)
+
+-- files that are written: their names and their bytes
+abbrev pub Files : Type 0
+Files = List (List ℕ × List ℕ)
+
+-- the text under the name, where there is one
+abbrev pub file_under : List ℕ → Option (List ℕ) → Files
+file_under name None = []
+file_under name (Some text) = (name, text) ∷ []
+
+-- what a command says of the files, and the files that it writes
+abbrev pub CommandSays : Option Held → Asked → Status → List ℕ → Files → Type 0
+CommandSays held (Check instance) status line files = (bytes : List ℕ) × MayHold held instance bytes × CheckSays bytes status line × (files ≡ [])
+CommandSays held (Score instance solution) status line files =
+    (bytes : List ℕ) × (others : List ℕ) × MayHold held instance bytes × MayHold held solution others × ScoreSays bytes others status line × (files ≡ [])
+CommandSays held (Solve instance solution turns seed flips) status line files =
+    (bytes : List ℕ) × (text : Option (List ℕ)) × MayHold held instance bytes × SolveSays bytes (record { turns = turns; seed = seed; flips = flips }) status line text × (files ≡ file_under solution text)
+
+-- a file that the command reads isn't held
+abbrev pub LacksFile : Option Held → Asked → Type 0
+LacksFile held (Check instance) = IsUnheld held instance
+LacksFile held (Score instance solution) = IsUnheld held instance ⊎ IsUnheld held solution
+LacksFile held (Solve instance solution turns seed flips) = IsUnheld held instance
+
+-- how many files the command reads or writes
+abbrev pub files_of : Asked → ℕ
+files_of (Check instance) = 1
+files_of (Score instance solution) = 2
+files_of (Solve instance solution turns seed flips) = 2
+
+-- the names under which the command writes
+abbrev pub written_by : Asked → List (List ℕ)
+written_by (Check instance) = []
+written_by (Score instance solution) = []
+written_by (Solve instance solution turns seed flips) = solution ∷ []
+
+-- what a run says, and the files that it writes: the status and the line that the words and the files call for. Memory and writes that fail aren't theirs to say
+abbrev pub Says : List (List ℕ) → Option Held → Status → List ℕ → Files → Type 0
+Says words held status line files =
+    (IsUnasked words × (status ≡ Words) × (line ≡ words_line) × (files ≡ []))
+    ⊎ ((c : Asked) × Asks words c × (CommandSays held c status line files ⊎ (LacksFile held c × (status ≡ ReadFault) × (line ≡ []) × (files ≡ []))))
+
+-- ---- what was written
+
+-- where the store tells, exactly these files were written, one after the other
+abbrev pub AreWritten : Held → Held → Files → Type 0
+AreWritten old new [] = new ≡ old
+AreWritten old new (file ∷ files) = AreWritten (map.insert old file.0 file.1) new files
+
+abbrev pub HasWritten : Option Held → Option Held → Files → Type 0
+HasWritten None new files = new ≡ None
+HasWritten (Some old) new files = (later : Held) × (new ≡ Some later) × AreWritten old later files
+
+-- where the store tells, some of these files were written, and of the next one nothing or a first part
+abbrev pub AreCutOff : Held → Held → Files → Type 0
+AreCutOff old new [] = ⊥
+AreCutOff old new (file ∷ files) = Leaves old new file.0 file.1 ⊎ AreCutOff (map.insert old file.0 file.1) new files
+
+abbrev pub HasBrokenOff : Option Held → Option Held → Files → Type 0
+HasBrokenOff None new files = new ≡ None
+HasBrokenOff (Some old) new files = (later : Held) × (new ≡ Some later) × AreCutOff old later files
+
+-- a command says this of the files, and the files that it writes were written
+abbrev pub CommandDoes : Option Held → Option Held → Asked → Status → List ℕ → Type 0
+CommandDoes held later c status line = (files : Files) × CommandSays held c status line files × HasWritten held later files
+
+-- a command says something of the files, and the writing of its files broke off
+abbrev pub CommandBreaksOff : Option Held → Option Held → Asked → Type 0
+CommandBreaksOff held later c = (status : Status) × (line : List ℕ) × (files : Files) × CommandSays held c status line files × HasBrokenOff held later files
+
+-- the run says this status and line, and its files were written
+abbrev pub Does : List (List ℕ) → Option Held → Option Held → Status → List ℕ → Type 0
+Does words held later status line = (files : Files) × Says words held status line files × HasWritten held later files
+
+-- the run says some status, and the writing of its files broke off
+abbrev pub BreaksOff : List (List ℕ) → Option Held → Option Held → Type 0
+BreaksOff words held later = (status : Status) × (line : List ℕ) × (files : Files) × Says words held status line files × HasBrokenOff held later files
+
+-- the command, if it is one, doesn't write under the name
+abbrev pub LeavesName : List (List ℕ) → List ℕ → Type 0
+LeavesName words name = (c : Asked) → Asks words c → ¬ Contains (written_by c) name
+
+-- where the store tells, it holds what it held under all names but those that the command writes
+abbrev pub KeepsOthers : List (List ℕ) → Option Held → Option Held → Type 0
+KeepsOthers words None new = new ≡ None
+KeepsOthers words (Some old) new = (later : Held) × (new ≡ Some later) × ((name : List ℕ) → LeavesName words name → map.get later name ≡ map.get old name)
+
+-- the command, if it is one, writes no file
+abbrev pub IsReadOnly : List (List ℕ) → Type 0
+IsReadOnly words = (c : Asked) → Asks words c → written_by c ≡ []
+
+-- ---- what was told
+
+-- where the sink tells, it was told exactly this more
+abbrev pub IsTold : Option (List ℕ) → Option (List ℕ) → List ℕ → Type 0
+IsTold None new line = new ≡ None
+IsTold (Some old) new line = new ≡ Some (old ++ line)
+
+-- where the sink tells, it was told a first part of this, and not all
+abbrev pub IsCutOff : Option (List ℕ) → Option (List ℕ) → List ℕ → Type 0
+IsCutOff None new line = new ≡ None
+IsCutOff (Some old) new line = (n : ℕ) × (n < length line) × (new ≡ Some (old ++ take n line))
+
+-- the run says this status, its files were written and its line was told
+abbrev pub Tells : List (List ℕ) → Option Held → Option Held → Status → Option (List ℕ) → Option (List ℕ) → Type 0
+Tells words held later status old new = (line : List ℕ) × Does words held later status line × IsTold old new line
+
+-- the run says some status: its files were written and the telling of its line was cut off, or the writing broke off and nothing was told
+abbrev pub TellsPart : List (List ℕ) → Option Held → Option Held → Option (List ℕ) → Option (List ℕ) → Type 0
+TellsPart words held later old new =
+    ((status : Status) × (line : List ℕ) × Does words held later status line × IsCutOff old new line)
+    ⊎ (BreaksOff words held later × (new ≡ old))
+
+-- a file wasn't read: reading failed, or the file isn't held
+abbrev pub HasReadCause : List (List ℕ) → Option Held → ℕ → ℕ → Type 0
+HasReadCause words held before now = Rose before now ⊎ ((c : Asked) × Asks words c × LacksFile held c)
+
+-- the store is called at most once for each file
+abbrev pub CallsOnce : List (List ℕ) → ℕ → ℕ → Type 0
+CallsOnce words before now = (c : Asked) → Asks words c → now ≤ before + files_of c
+
+-- no fault was counted
+pub record IsFaultless (reads_before reads_now writes_before writes_now puts_before puts_now : ℕ) : Type 0 where
+  pub reads : ¬ Rose reads_before reads_now
+  pub writes : ¬ Rose writes_before writes_now
+  pub puts : ¬ Rose puts_before puts_now
+
+-- where the store tells what it holds, and no fault was counted, the run ends as the words and the files call for, or for want of memory
+abbrev pub Completes : List (List ℕ) → Option Held → Type 0 → Status → Type 0
+Completes words held Faultless result =
+    (told : Held) (status : Status) (line : List ℕ) (files : Files) → held ≡ Some told → Says words (Some told) status line files → Faultless
+    → (result ≡ status) ⊎ (result ≡ Memory)

@@ -1,0 +1,16 @@
+//! The commands of the program: from the words to the status and the printed line, over any store and sink.
+#![tactic(auto)]
+
+mod checking;
+mod ending;
+mod lines;
+mod reply;
+mod run;
+mod scoring;
+mod solution_lines;
+mod solving;
+mod status;
+
+pub use ending::end_number;
+pub use run::run_plain;
+pub use status::Status;

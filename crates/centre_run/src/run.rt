@@ -1,0 +1,142 @@
+// The top call: from the words to the status and the printed line.
+ghost use Rattle.std.specs.Prelude.{◌≡◌, ◌≢◌, ◌⊎◌, IfOk, IsErrOf, string_bytes};
+ghost use Rattle.host_io.specs.Store.{Rose};
+ghost use Rattle.centre_run.specs.Lines.{words_line};
+ghost use Rattle.centre_words.specs.Words.{texts, Asks, IsUnasked};
+ghost use Rattle.centre_words.specs.declared.asked.Asked.{Asked};
+ghost use Rattle.centre_run.specs.Calls.{CallsFor, CallsInOrder};
+ghost use Rattle.centre_run.specs.Runs.{Does, BreaksOff, KeepsOthers, IsReadOnly, HasReadCause, CallsOnce, IsFaultless, Completes, Tells, TellsPart};
+
+use crate::checking::check_file;
+use crate::lines::words_text;
+use crate::reply::{Quiet, Reply, with_line};
+use crate::scoring::score_files;
+use crate::solving::{SolveOptions, solve_file};
+use crate::status::Status;
+use centre_words::{Asked, WordsFault, read_words};
+use host_io::{Sink, Store, put_all};
+use std::alloc::Global;
+
+// What is said of words that are those of no command.
+fn words_reply(alloc: Global) -> Result<Reply, Quiet>
+    ensures says { IfOk result (λ r. (r.status ≡ Status.Words) × (string_bytes r.line ≡ words_line)) }
+    ensures read { IsErrOf result Quiet.ReadFault → ⊥ }
+    ensures write { IsErrOf result Quiet.WriteFault → ⊥ }
+{
+    with_line(Status::Words, words_text(alloc))
+}
+
+// Does what the words call for, all but the printing.
+fn reply_to<S: Store>(alloc: Global, words: &[String], store: &mut S) -> Result<Reply, Quiet>
+    ensures does { IfOk result (λ r. Does (texts words.now) (S.held store.old) (S.held store.new) r.status (string_bytes r.line)) }
+    ensures cause { IsErrOf result Quiet.ReadFault
+        → HasReadCause (texts words.now) (S.held store.old) (S.read_faults store.old) (S.read_faults store.new) }
+    ensures unread { IsErrOf result Quiet.ReadFault → S.held store.new ≡ S.held store.old }
+    ensures memory { IsErrOf result Quiet.Memory → S.held store.new ≡ S.held store.old }
+    ensures unwritten { IsErrOf result Quiet.WriteFault → Rose (S.write_faults store.old) (S.write_faults store.new) }
+    ensures broken { IsErrOf result Quiet.WriteFault → BreaksOff (texts words.now) (S.held store.old) (S.held store.new) }
+    ensures asked { IsErrOf result Quiet.ReadFault → ¬ IsUnasked (texts words.now) }
+    ensures asked_to_write { IsErrOf result Quiet.WriteFault → ¬ IsUnasked (texts words.now) }
+    ensures read_only { IsReadOnly (texts words.now) → S.write_faults store.new ≡ S.write_faults store.old }
+    ensures calls { CallsOnce (texts words.now) (S.calls store.old) (S.calls store.new) }
+    ensures uncalled { IsUnasked (texts words.now) → S.calls store.new ≡ S.calls store.old }
+    ensures called { IfOk result (λ r. (c : Asked) → Asks (texts words.now) c → CallsFor c r.status (S.calls store.old) (S.calls store.new)) }
+    ensures stopped { IsErrOf result Quiet.ReadFault
+        → CallsInOrder (texts words.now) (S.held store.old) (Rose (S.read_faults store.old) (S.read_faults store.new)) Status.ReadFault (S.calls store.old) (S.calls store.new) }
+    ensures broken_calls { IsErrOf result Quiet.WriteFault
+        → CallsInOrder (texts words.now) (S.held store.old) (Rose (S.read_faults store.old) (S.read_faults store.new)) Status.WriteFault (S.calls store.old) (S.calls store.new) }
+{
+    match read_words(alloc, words) {
+        Ok(Asked::Check { instance }) => check_file(alloc, store, instance.text()),
+        Ok(Asked::Score { instance, solution }) => {
+            score_files(alloc, store, instance.text(), solution.text())
+        }
+        Ok(
+            Asked::Solve {
+                instance,
+                solution,
+                turns,
+                seed,
+                flips,
+            },
+        ) => {
+            let options = SolveOptions { turns, seed, flips };
+            solve_file(alloc, store, instance.text(), solution.text(), options)
+        }
+        Err(WordsFault::Words) => words_reply(alloc),
+        Err(WordsFault::OutOfMemory) => Err(Quiet::Memory),
+    }
+}
+
+/// Does what the words ask for: reads and writes the files that they name, and puts one line.
+///
+/// `words` are those after the program's name.
+pub fn run_plain<S: Store, O: Sink>(
+    alloc: Global,
+    words: &[String],
+    store: &mut S,
+    out: &mut O,
+) -> Status
+    // 0: what the command asks of the files holds, its files were written, and the line that says so was put.
+    ensures done { result ≡ Status.Done
+        → Tells (texts words.now) (S.held store.old) (S.held store.new) Status.Done (O.told out.old) (O.told out.new) }
+    // 1: exactly by the words, which alone decide.
+    ensures words { result ≡ Status.Words
+        → Tells (texts words.now) (S.held store.old) (S.held store.new) Status.Words (O.told out.old) (O.told out.new) }
+    // 2: a file has a fault, and the line that names the first one was put.
+    ensures refused { result ≡ Status.Refused
+        → Tells (texts words.now) (S.held store.old) (S.held store.new) Status.Refused (O.told out.old) (O.told out.new) }
+    // 3: the run of an input is longer than the budget, and the line that names the first one was put.
+    ensures budget { result ≡ Status.FlipBudget
+        → Tells (texts words.now) (S.held store.old) (S.held store.new) Status.FlipBudget (O.told out.old) (O.told out.new) }
+    // 7: by no command so far.
+    ensures no_certificate { result ≢ Status.No }
+    // 4: free, and nothing was written or put.
+    ensures memory { result ≡ Status.Memory → O.told out.new ≡ O.told out.old }
+    ensures memory_kept { result ≡ Status.Memory → S.held store.new ≡ S.held store.old }
+    // 5: a read fault was counted, or a telling store doesn't hold a name; nothing was written or put.
+    ensures read_fault { result ≡ Status.ReadFault
+        → HasReadCause (texts words.now) (S.held store.old) (S.read_faults store.old) (S.read_faults store.new) }
+    ensures read_fault_told { result ≡ Status.ReadFault → O.told out.new ≡ O.told out.old }
+    ensures read_fault_kept { result ≡ Status.ReadFault → S.held store.new ≡ S.held store.old }
+    // 6: a fault of a write or of the sink was counted. Either the writing of another status's files broke off, and nothing was put; or they were written, and a first part of its line was put.
+    ensures write_fault { result ≡ Status.WriteFault
+        → Rose (S.write_faults store.old) (S.write_faults store.new) ⊎ Rose (O.faults out.old) (O.faults out.new) }
+    ensures write_fault_told { result ≡ Status.WriteFault
+        → TellsPart (texts words.now) (S.held store.old) (S.held store.new) (O.told out.old) (O.told out.new) }
+
+    // Nothing else ends a run: where the store tells what it holds and no fault is counted, the status is the one that the words and the files call for, if there is memory.
+    ensures complete { Completes (texts words.now) (S.held store.old)
+        (IsFaultless (S.read_faults store.old) (S.read_faults store.new) (S.write_faults store.old) (S.write_faults store.new) (O.faults out.old) (O.faults out.new))
+        result }
+    ensures words_decide { IsUnasked (texts words.now) → ¬ Rose (O.faults out.old) (O.faults out.new)
+        → (result ≡ Status.Words) ⊎ (result ≡ Status.Memory) }
+
+    // The store keeps what it holds under all names but those that the command writes. It is called at most once for each file of the command, and not where the words are those of no command. Names are read in order, up to the first that can't be; then names are written, where all was done.
+    ensures kept { KeepsOthers (texts words.now) (S.held store.old) (S.held store.new) }
+    ensures read_only { IsReadOnly (texts words.now) → S.write_faults store.new ≡ S.write_faults store.old }
+    ensures calls { CallsOnce (texts words.now) (S.calls store.old) (S.calls store.new) }
+    ensures in_order { CallsInOrder (texts words.now) (S.held store.old) (Rose (S.read_faults store.old) (S.read_faults store.new)) result (S.calls store.old) (S.calls store.new) }
+    ensures uncalled { IsUnasked (texts words.now) → S.calls store.new ≡ S.calls store.old }
+{
+    let reply = match reply_to(alloc, words, store) {
+        Ok(reply) => reply,
+        Err(Quiet::Memory) => return Status::Memory,
+        Err(Quiet::ReadFault) => return Status::ReadFault,
+        Err(Quiet::WriteFault) => return Status::WriteFault,
+    };
+    match put_all(out, reply.line.as_bytes()) {
+        Ok(()) => {}
+        Err(_) => return Status::WriteFault,
+    }
+    reply.status
+}
+
+#[cfg(test)]
+mod size_tests;
+#[cfg(test)]
+mod solve_tests;
+#[cfg(test)]
+mod tests;
+#[cfg(test)]
+mod weight_tests;

@@ -1,0 +1,119 @@
+// The lines of totals and of refused solutions.
+ghost use Rattle.std.specs.Prelude.{◌≡◌, [], ◌∷◌, codes, decimal, IfOk, string_bytes};
+ghost use Rattle.centre_run.specs.Lines.{line, edge_text, solution_refused, total_line, solved_line, budget_line, solution_form_line, other_uid_line, round_line, input_count_line, no_common_centre_line};
+
+use edge_table::Edge;
+use replay::RoundFault;
+use solution_json::SolForm;
+use std::alloc::{AllocError, Global};
+
+pub fn total_text(alloc: Global, total: u128) -> Result<String, AllocError>
+    ensures { IfOk result (λ s. string_bytes s ≡ total_line total) }
+{
+    format!(in alloc; "total {total}\n")
+}
+
+/// The rounds of a solution, and a number that no solution has fewer rounds than.
+pub fn solved_text(alloc: Global, total: u128, bound: u128) -> Result<String, AllocError>
+    ensures { IfOk result (λ s. string_bytes s ≡ solved_line total bound) }
+{
+    format!(in alloc; "total {total} bound {bound}\n")
+}
+
+/// The first input whose run is longer than the budget.
+pub fn budget_text(alloc: Global, t: u32) -> Result<String, AllocError>
+    ensures { IfOk result (λ s. string_bytes s ≡ budget_line t) }
+{
+    format!(in alloc; "flip budget {t}\n")
+}
+
+// A fault with a word.
+fn word_text(alloc: Global, name: &str, word: &str) -> Result<String, AllocError>
+    ensures { IfOk result (λ s. string_bytes s ≡ line (solution_refused (name.now ∷ word.now ∷ []))) }
+{
+    format!(in alloc; "refused solution {name} {word}\n")
+}
+
+pub fn solution_form_text(alloc: Global, form: SolForm) -> Result<String, AllocError>
+    ensures { IfOk result (λ s. string_bytes s ≡ solution_form_line form) }
+{
+    match form {
+        SolForm::NotJson => String::from_str(alloc, "refused solution NotJson\n"),
+        SolForm::NotObject => String::from_str(alloc, "refused solution NotObject\n"),
+        SolForm::Missing(member) => word_text(alloc, "Missing", member.name()),
+        SolForm::WrongType(member) => word_text(alloc, "WrongType", member.name()),
+        SolForm::NotInteger(k) => format!(in alloc; "refused solution NotInteger {k}\n"),
+        SolForm::BadPair(k) => format!(in alloc; "refused solution BadPair {k}\n"),
+    }
+}
+
+pub fn other_uid_text(alloc: Global) -> Result<String, AllocError>
+    ensures { IfOk result (λ s. string_bytes s ≡ other_uid_line) }
+{
+    String::from_str(alloc, "refused solution UidSolution\n")
+}
+
+pub fn input_count_text(alloc: Global, said: u64, is: u64) -> Result<String, AllocError>
+    ensures { IfOk result (λ s. string_bytes s ≡ input_count_line said is) }
+{
+    format!(in alloc; "refused solution InputCount {said} {is}\n")
+}
+
+pub fn no_common_centre_text(alloc: Global, t: u32) -> Result<String, AllocError>
+    ensures { IfOk result (λ s. string_bytes s ≡ no_common_centre_line t) }
+{
+    format!(in alloc; "refused solution NoCommonCentre {t}\n")
+}
+
+// A fault of a round with one edge.
+fn edge_fault_text(alloc: Global, t: u32, name: &str, r: u64, e: Edge) -> Result<String, AllocError>
+    ensures { IfOk result (λ s. string_bytes s
+        ≡ line (solution_refused (codes "Round" ∷ decimal t ∷ name.now ∷ decimal r ∷ edge_text e ∷ []))) }
+{
+    let (low, high) = (e.low(), e.high());
+    format!(in alloc; "refused solution Round {t} {name} {r} {low}-{high}\n")
+}
+
+// An edge as it is printed.
+fn edge_word(alloc: Global, e: Edge) -> Result<String, AllocError>
+    ensures { IfOk result (λ s. string_bytes s ≡ edge_text e) }
+{
+    let (low, high) = (e.low(), e.high());
+    format!(in alloc; "{low}-{high}")
+}
+
+// A fault of a round with two edges.
+fn edges_fault_text(
+    alloc: Global,
+    t: u32,
+    name: &str,
+    r: u64,
+    e: Edge,
+    f: Edge,
+) -> Result<String, AllocError>
+    ensures { IfOk result (λ s. string_bytes s
+        ≡ line (solution_refused (codes "Round" ∷ decimal t ∷ name.now ∷ decimal r ∷ edge_text e ∷ edge_text f ∷ []))) }
+{
+    let first = edge_word(alloc, e)?;
+    let second = edge_word(alloc, f)?;
+    format!(in alloc; "refused solution Round {t} {name} {r} {first} {second}\n")
+}
+
+/// The first fault in the rounds of an input.
+pub fn round_text(alloc: Global, t: u32, fault: RoundFault) -> Result<String, AllocError>
+    ensures { IfOk result (λ s. string_bytes s ≡ round_line t fault) }
+{
+    match fault {
+        RoundFault::NotEdge(r, e) => edge_fault_text(alloc, t, "NotEdge", r, e),
+        RoundFault::Twice(r, e) => edge_fault_text(alloc, t, "Twice", r, e),
+        RoundFault::NotConvex(r, e) => edge_fault_text(alloc, t, "NotConvex", r, e),
+        RoundFault::SharedTriangle(r, e, f) => edges_fault_text(
+            alloc,
+            t,
+            "SharedTriangle",
+            r,
+            e,
+            f,
+        ),
+    }
+}
