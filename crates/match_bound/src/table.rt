@@ -40,6 +40,14 @@ impl Row {
     {
         self.items[j] = w;
     }
+
+    fn copy(&self) -> Result<Self, AllocError>
+        ensures { IfOk result (λ row. row ≡ self.now) }
+    {
+        Ok(Row {
+            items: self.items.clone()?,
+        })
+    }
 }
 
 /// Weights for pairs of up to 256 inputs, seen as a square table that equals its mirror and has zeros on its diagonal.
@@ -104,5 +112,16 @@ impl Weights {
     {
         self.rows[i as usize].put(j as usize, w);
         self.rows[j as usize].put(i as usize, w);
+    }
+
+    /// An equal table.
+    pub fn copy(&self) -> Result<Self, AllocError>
+        ensures { IfOk result (λ w. w ≡ self.now) }
+    {
+        let mut rows = Vec::new(*self.rows.allocator());
+        for row in &self.rows {
+            rows.push(row.copy()?)?;
+        }
+        Ok(Weights { rows })
     }
 }
