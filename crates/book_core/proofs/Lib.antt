@@ -1,0 +1,13 @@
+mod Caught
+mod Copied
+pub mod Crossing
+mod Following
+mod Grown
+mod Kept
+mod Listed
+mod Offered
+mod Opened
+mod Swapped
+pub mod Tables
+mod Units
+mod Worlds

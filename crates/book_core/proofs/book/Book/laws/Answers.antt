@@ -1,0 +1,11 @@
+use Rattle.std.proofs.Common.{subst}
+use Rattle.plan_law.specs.Books.{bound}
+use Rattle.book_core.specs.HeldBooks.{HeldBook, now_of, IsBelowPlans}
+use Rattle.book_core.proofs.Kept.{bounds_plans}
+use Rattle.book_core.proofs.book.Book.laws.Goals as goal
+
+pub returns-clause-plans : goal.returns-clause-plans
+returns-clause-plans c =
+    let b : HeldBook = record { problem = c.self.inside.plan.problem; opening = c.self.inside.opening.value.plan; journal = c.self.inside.journal.items } in
+    let H = c.self.invariant.0 in
+    subst (λ (x : HeldBook). IsBelowPlans x.problem (bound (now_of x))) c.self.view_is (bounds_plans b H.is_problem H.is_book H.weighed)
