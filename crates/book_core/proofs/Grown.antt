@@ -10,13 +10,12 @@ use Rattle.plan_law.specs.Books.{State, is_plan_entry, opening_state, after_entr
 use Rattle.plan_law.specs.Worlds.{with_entry}
 use Rattle.plan_law.proofs.Books.{state_append}
 use Rattle.plan_law.proofs.Proved.{journals_grow, journals_keep_weights}
-use Rattle.plan_core.specs.HeldPlans.{weights_of}
 use Rattle.book_core.specs.declared.entry.Entry.{Entry}
 use Rattle.book_core.specs.Entries.{Shown, line_of, lines_of, IsJustifiedRow}
 use Rattle.book_core.specs.HeldBooks.{HeldBook, book_of, now_of, front_of, IsOffer, with_line}
 
 -- the plan has the weights of the instance at any time
-pub weights_now : (b : HeldBook) → b.opening.weights ≡ weights_of b.problem → (now_of b).plan.weights ≡ weights_of b.problem
+pub weights_now : (b : HeldBook) → b.opening.weights ≡ b.problem.weights → (now_of b).plan.weights ≡ b.problem.weights
 weights_now b e = journals_keep_weights Shown b.problem.points b.problem.inputs (opening_state b.opening) (lines_of b.journal) ∙ e
 
 module _ (b : HeldBook) (entry : Entry) where
@@ -38,10 +37,10 @@ module _ (b : HeldBook) (entry : Entry) where
   pub now_grows : now_of (with_line b entry) ≡ after_entry P Q (now_of b) (line_of entry)
   now_grows = ap (state_after P Q (opening_state b.opening)) lines_grow ∙ state_append Shown J P Q (opening_state b.opening) (lines_of b.journal) (line_of entry ∷ [])
 
-  pub weights_after : b.opening.weights ≡ weights_of b.problem → (after_entry P Q (now_of b) (line_of entry)).plan.weights ≡ (now_of b).plan.weights
+  pub weights_after : b.opening.weights ≡ b.problem.weights → (after_entry P Q (now_of b) (line_of entry)).plan.weights ≡ (now_of b).plan.weights
   weights_after e = journals_keep_weights Shown P Q (now_of b) (line_of entry ∷ [])
 
-  pub legal_grows : b.opening.weights ≡ weights_of b.problem → IsBook J P Q (book_of b) → IsOffer b.problem entry → IsFit P Q (now_of b) (line_of entry) → IsBook J P Q (book_of (with_line b entry))
+  pub legal_grows : b.opening.weights ≡ b.problem.weights → IsBook J P Q (book_of b) → IsOffer b.problem entry → IsFit P Q (now_of b) (line_of entry) → IsBook J P Q (book_of (with_line b entry))
   legal_grows e B m f = record {
     opens = B.opens;
     legal = subst (IsLegal J P Q (opening_state b.opening)) (sym lines_grow)

@@ -9,7 +9,6 @@ use Rattle.plan_law.specs.Books as law
 use Rattle.plan_law.specs.Books.{PairRow, IsTrueRow, State, after_entry, MayBeOffered, IsLegal, IsBook, bound}
 use Rattle.plan_law.proofs.Proved.{books_bound_plans}
 use Rattle.pair_rows.proofs.RowLaws.{justified_rows_are_true}
-use Rattle.plan_core.specs.HeldPlans.{weights_of}
 use Rattle.book_core.specs.declared.entry.Entry.{Entry}
 use Rattle.book_core.specs.declared.entry.Entry.TheVariants.{Move, Swap, Row, Pack}
 use Rattle.book_core.specs.Entries.{Shown, pair_row, shown_row, IsJustifiedRow}
@@ -37,7 +36,7 @@ module _ (J K : PairRow Shown → Type 0) (points : List Point) (inputs : List (
   legal_so start [] h = h
   legal_so start (entry ∷ journal) (m, fit, h) = (offer_so (sum start.plan.weights) entry m, fit, legal_so (after_entry points inputs start entry) journal h)
 
-pub bounds_plans : (b : HeldBook) → IsProblem b.problem.points b.problem.inputs → IsBook (IsJustifiedRow b.problem.points b.problem.inputs) b.problem.points b.problem.inputs (book_of b) → b.opening.weights ≡ weights_of b.problem
+pub bounds_plans : (b : HeldBook) → IsProblem b.problem.points b.problem.inputs → IsBook (IsJustifiedRow b.problem.points b.problem.inputs) b.problem.points b.problem.inputs (book_of b) → b.opening.weights ≡ b.problem.weights
     → IsBelowPlans b.problem (bound (now_of b))
 bounds_plans b I B w centre schedules p =
     subst (λ ws. bound (now_of b) ≤ total ws schedules) w

@@ -9,5 +9,4 @@ mod Offered
 mod Opened
 mod Swapped
 pub mod Tables
-mod Units
 mod Worlds

@@ -8,7 +8,6 @@ use Rattle.bound_law.specs.Bounds.{input_at}
 use Rattle.assignment_law.specs.Assignments.{IsAssignment, assignment_bound}
 use Rattle.bound_law.specs.Copies.{copy_lower}
 use Rattle.match_bound.specs.Tables.{weight, IsTable}
-use Rattle.plan_core.specs.HeldPlans.{weights_of}
 use Rattle.book_core.specs.CopyTables.{SetsCopies}
 use Rattle.plan_law.specs.Plans.{Plan, plan_total, followed_all, swapped}
 use Rattle.plan_law.specs.Books as law
@@ -47,10 +46,10 @@ module _ (b : HeldBook) (plan : Plan) (table : List (List ℕ)) (perm : List ℕ
   state = books_keep_plans Shown (λ points inputs r. IsJustifiedRow points inputs r) P Q (book_of b) (instance_of P Q H.is_problem) H.is_book
 
   -- the weights of its plan are those of the instance, and its assignment is one of the copies
-  pub weighs : now.plan.weights ≡ weights_of b.problem
+  pub weighs : now.plan.weights ≡ b.problem.weights
   weighs = weights_now b H.weighed
 
-  pub assigns : IsAssignment (sum (weights_of b.problem)) perm
+  pub assigns : IsAssignment (sum b.problem.weights) perm
   assigns = subst (λ ws. IsAssignment (sum ws) perm) weighs (subst (IsAssignment (sum now.plan.weights)) (sym H.perm_is) state.is_assignment)
 
   plan_on : (entry : Entry) (next : Plan) → plan_after P Q now.plan (line_of entry) ≡ Some next → (now_of (with_line b entry)).plan ≡ next
@@ -66,13 +65,13 @@ module _ (b : HeldBook) (plan : Plan) (table : List (List ℕ)) (perm : List ℕ
   }
 
   pub held_on : (entry : Entry) (next : Plan) (to : List (List ℕ)) (assigned : List ℕ) → IsOffer b.problem entry → IsFit P Q now (line_of entry) → plan_after P Q now.plan (line_of entry) ≡ Some next
-      → to ≡ lower_table (weights_of b.problem) (rows_after now.rows (line_of entry)) → assigned ≡ assignment_after now.assignment (line_of entry) → IsHeldBook (with_line b entry) next to assigned
+      → to ≡ lower_table b.problem.weights (rows_after now.rows (line_of entry)) → assigned ≡ assignment_after now.assignment (line_of entry) → IsHeldBook (with_line b entry) next to assigned
   held_on entry next to assigned m fit e t a = record {
     is_problem = H.is_problem;
     weighed = H.weighed;
     is_book = legal_grows b entry H.weighed H.is_book m fit;
     plan_is = sym (plan_on entry next e);
-    table_is = t ∙ ap (λ (s : State Shown). lower_table (weights_of b.problem) s.rows) (sym (now_grows b entry));
+    table_is = t ∙ ap (λ (s : State Shown). lower_table b.problem.weights s.rows) (sym (now_grows b entry));
     perm_is = a ∙ ap (λ (s : State Shown). s.assignment) (sym (now_grows b entry));
   }
 
@@ -146,10 +145,10 @@ module _ (b : HeldBook) (plan : Plan) (table : List (List ℕ)) (perm : List ℕ
     swap_refused OutOfMemory F = tt
 
   -- ---- rows
-  pub row_held : (turn : ℕ) (r : row.Row) (to : List (List ℕ)) → IsOffer b.problem (Row turn r) → row_of now.rows r.i r.j ≡ None → IsTable to → SetsCopies (weights_of b.problem) table to r.i r.j r.lower (sum (weights_of b.problem))
+  pub row_held : (turn : ℕ) (r : row.Row) (to : List (List ℕ)) → IsOffer b.problem (Row turn r) → row_of now.rows r.i r.j ≡ None → IsTable to → SetsCopies b.problem.weights table to r.i r.j r.lower (sum b.problem.weights)
       → IsHeldBook (with_line b (Row turn r)) plan to perm
   row_held turn r to m none U S =
-      held_on (Row turn r) plan to perm m none (ap Some (sym H.plan_is)) (table_grows (weights_of b.problem) now.rows (pair_row r) table to m.0 none H.table_is U S) H.perm_is
+      held_on (Row turn r) plan to perm m none (ap Some (sym H.plan_is)) (table_grows b.problem.weights now.rows (pair_row r) table to m.0 none H.table_is U S) H.perm_is
 
   pub row_accepted : (base turn : ℕ) (r : row.Row) (place : ℕ) → row_of now.rows r.i r.j ≡ None → place ≡ length b.journal → Accepts b base (Row turn r) place 0
   row_accepted base turn r place none at = accepted base (Row turn r) place 0 now.plan (λ s. false_true s.0) none at refl (omega arith)
@@ -157,21 +156,21 @@ module _ (b : HeldBook) (plan : Plan) (table : List (List ℕ)) (perm : List ℕ
       false_true : ◌≡◌ {A = Bool} false true → ⊥
       false_true e = absurd (cc)
 
-  pub row_limit : (turn : ℕ) (r : row.Row) (to : List (List ℕ)) (limit : ℕ) → to ≡ lower_table (weights_of b.problem) (now.rows ++ (pair_row r ∷ [])) → limit ≡ assignment_bound (weight to) perm → limit ≡ bound (after_entry P Q now (line_of (Row turn r)))
+  pub row_limit : (turn : ℕ) (r : row.Row) (to : List (List ℕ)) (limit : ℕ) → to ≡ lower_table b.problem.weights (now.rows ++ (pair_row r ∷ [])) → limit ≡ assignment_bound (weight to) perm → limit ≡ bound (after_entry P Q now (line_of (Row turn r)))
   row_limit turn r to limit t l =
       l
       ∙ (ap (λ (w : List (List ℕ)). assignment_bound (weight w) perm) t
-      ∙ (bound_same (weights_of b.problem) (now.rows ++ (pair_row r ∷ [])) perm assigns
+      ∙ (bound_same b.problem.weights (now.rows ++ (pair_row r ∷ [])) perm assigns
       ∙ (ap (λ ws. assignment_bound (copy_lower ws (lower_of (now.rows ++ (pair_row r ∷ [])))) perm) (sym weighs)
       ∙ ap (assignment_bound (copy_lower now.plan.weights (lower_of (now.rows ++ (pair_row r ∷ []))))) H.perm_is)))
 
   -- ---- assignments
-  module _ (turn : ℕ) (assigned : List ℕ) (A : IsAssignment (sum (weights_of b.problem)) assigned) (given : ℕ) (G : given ≡ assignment_bound (weight table) assigned) where
+  module _ (turn : ℕ) (assigned : List ℕ) (A : IsAssignment (sum b.problem.weights) assigned) (given : ℕ) (G : given ≡ assignment_bound (weight table) assigned) where
     pub given_is : given ≡ bound_of now assigned
     given_is =
         G
         ∙ (ap (λ (w : List (List ℕ)). assignment_bound (weight w) assigned) H.table_is
-        ∙ (bound_same (weights_of b.problem) now.rows assigned A ∙ ap (λ ws. assignment_bound (copy_lower ws (lower_of now.rows)) assigned) (sym weighs)))
+        ∙ (bound_same b.problem.weights now.rows assigned A ∙ ap (λ ws. assignment_bound (copy_lower ws (lower_of now.rows)) assigned) (sym weighs)))
 
     pub pack_held : bound now < given → IsHeldBook (with_line b (Pack turn assigned)) plan table assigned
     pack_held l = held_on (Pack turn assigned) plan table assigned A (omega (arith, l, given_is)) (ap Some (sym H.plan_is)) H.table_is refl

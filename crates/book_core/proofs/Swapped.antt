@@ -35,6 +35,9 @@ module _ (problem : Problem) (plan : Plan) (I : IsProblem problem.points problem
   abbrev w : ℕ
   w = get_or plan.weights t 0
 
+  weighs : 1 ≤ w
+  weighs = K.weighed.positive t 0 (let l = K.weighed.one_each in omega (arith, h, l))
+
   totals : (next : Plan) → IsSwapped problem plan t rounds next → plan_total next + w * round_count (list_at plan t) ≡ plan_total plan + w * round_count (list_at next t)
   totals next S = subst (λ (p : Plan). plan_total p + w * round_count (list_at plan t) ≡ plan_total plan + w * round_count (list_at p t)) same W.totals
     where
@@ -44,13 +47,13 @@ module _ (problem : Problem) (plan : Plan) (I : IsProblem problem.points problem
       same : W.next ≡ next
       same = let e = sym W.is_swapped ∙ S.swapped in cc
 
-  pub swapped_in : (next : Plan) (saved : ℕ) → IsSwapped problem plan t rounds next → 0 < saved → round_count (list_at next t) + saved ≡ round_count (list_at plan t) → 1 ≤ w → IsSwappedIn problem plan t rounds (w * saved) next
-  swapped_in next saved S some e l = record {
+  pub swapped_in : (next : Plan) (saved : ℕ) → IsSwapped problem plan t rounds next → 0 < saved → round_count (list_at next t) + saved ≡ round_count (list_at plan t) → IsSwappedIn problem plan t rounds (w * saved) next
+  swapped_in next saved S some e = record {
     rounds_lead = lawful S.leads;
     lowered = record {
       leads = S.swapped;
       saves = (let f = totals next S in let g = ap (λ n. w * n) e in let d = times_over w (round_count (list_at next t)) saved in omega (arith, f, g, d));
-      some = at_least w saved l some;
+      some = at_least w saved weighs some;
     };
   }
 

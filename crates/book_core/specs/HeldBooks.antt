@@ -10,7 +10,7 @@ use Rattle.plan_law.specs.Books.{State, MayBeOffered, IsBook, state_of, front, b
 use Rattle.plan_law.specs.Worlds as worlds
 use Rattle.plan_law.specs.Worlds.{IsStale, IsAccepted, IsUnfit, lower_table}
 use Rattle.plan_core.specs.declared.fault.SwapFault.{SwapFault}
-use Rattle.plan_core.specs.HeldPlans.{HeldPlan, weights_of}
+use Rattle.plan_core.specs.HeldPlans.{HeldPlan}
 use Rattle.pair_rows.specs.Rows.{IsTrue}
 use Rattle.book_core.specs.declared.entry.Entry.{Entry}
 use Rattle.book_core.specs.declared.entry.Entry.TheVariants.{Swap, Row}
@@ -41,11 +41,11 @@ ground_of b = record { problem = b.problem; plan = b.opening; spare = 0 }
 
 -- an entry that may be offered to a book of this instance
 abbrev pub IsOffer : Problem → Entry → Type 0
-IsOffer problem entry = MayBeOffered (IsJustifiedRow problem.points problem.inputs) (length problem.inputs) (sum (weights_of problem)) (line_of entry)
+IsOffer problem entry = MayBeOffered (IsJustifiedRow problem.points problem.inputs) (length problem.inputs) (sum problem.weights) (line_of entry)
 
 -- no plan of the instance has a total below n
 abbrev pub IsBelowPlans : Problem → ℕ → Type 0
-IsBelowPlans problem n = (centre : List Edge) (schedules : List (List (List Edge))) → IsPlan problem.points problem.inputs centre schedules → n ≤ total (weights_of problem) schedules
+IsBelowPlans problem n = (centre : List Edge) (schedules : List (List (List Edge))) → IsPlan problem.points problem.inputs centre schedules → n ≤ total problem.weights schedules
 
 -- what a row says of its two inputs is true
 abbrev pub SaysTrue : Problem → Entry → Type 0
@@ -87,10 +87,10 @@ Refuses b base entry OutOfMemory = Unit {0}
 -- the parts of a book are the state after its journal, which is legal
 pub record IsHeldBook (b : HeldBook) (plan : Plan) (table : List (List ℕ)) (perm : List ℕ) : Type 0 where
   pub is_problem : IsProblem b.problem.points b.problem.inputs
-  pub weighed : b.opening.weights ≡ weights_of b.problem
+  pub weighed : b.opening.weights ≡ b.problem.weights
   pub is_book : IsBook (IsJustifiedRow b.problem.points b.problem.inputs) b.problem.points b.problem.inputs (book_of b)
   pub plan_is : plan ≡ (now_of b).plan
-  pub table_is : table ≡ lower_table (weights_of b.problem) (now_of b).rows
+  pub table_is : table ≡ lower_table b.problem.weights (now_of b).rows
   pub perm_is : perm ≡ (now_of b).assignment
 
 -- and so are its numbers

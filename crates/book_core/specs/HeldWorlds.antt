@@ -2,7 +2,6 @@
 use Rattle.std.specs.Prelude.{◌≡◌, ◌≢◌, ℕ, ◌<◌, Option, Some, None, List, [], ◌∷◌, ◌++◌, length, set, slice_get, All}
 use Rattle.tri_check.specs.Problems.{IsProblem}
 use Rattle.plan_law.specs.Books.{IsBook}
-use Rattle.plan_core.specs.HeldPlans.{weights_of}
 use Rattle.book_core.specs.Entries.{IsJustifiedRow}
 use Rattle.book_core.specs.declared.refusal.Refusal.TheVariants as refusal
 use Rattle.book_core.specs.declared.world.Event.{Event}
@@ -20,7 +19,7 @@ pub record HeldWorld : Type 0 where
 pub record IsHeldWorld (w : HeldWorld) : Type 0 where
   pub is_problem : IsProblem w.book.problem.points w.book.problem.inputs
   pub is_book : IsBook (IsJustifiedRow w.book.problem.points w.book.problem.inputs) w.book.problem.points w.book.problem.inputs (book_of w.book)
-  pub weighed : w.book.opening.weights ≡ weights_of w.book.problem
+  pub weighed : w.book.opening.weights ≡ w.book.problem.weights
   pub replicas : All (IsReplica w.book) w.replicas
 
 abbrev pub with_replica : HeldWorld → ℕ → HeldReplica → HeldWorld

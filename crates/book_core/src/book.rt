@@ -5,13 +5,12 @@ ghost use Rattle.tri_check.specs.Problems.{IsProblem};
 ghost use Rattle.plan_law.specs.Plans.{plan_total};
 ghost use Rattle.plan_law.specs.Books.{bound, row_of, identity, IsBook};
 ghost use Rattle.plan_law.specs.Worlds.{lower_table};
-ghost use Rattle.plan_core.specs.HeldPlans.{weights_of};
 ghost use Rattle.book_core.specs.declared.entry.Entry.TheVariants as entry;
 ghost use Rattle.book_core.specs.Entries.{pair_row, IsJustifiedRow};
 ghost use Rattle.book_core.specs.HeldBooks.{opened, IsOffer, Accepts, Refuses, IsBelowPlans, SaysTrue, with_line, book_of, now_of, front_of};
 ghost use Rattle.book_core.specs.HeldReplicas.{seen_all};
 
-use crate::copies::{copies, set_copies};
+use crate::copies::set_copies;
 use crate::rows::find_row;
 use crate::steps::{make_move, make_swap};
 use crate::{Accepted, Entry, Refusal};
@@ -65,7 +64,8 @@ impl Book {
     pub fn opening(alloc: Global, plan: Plan) -> Result<Book, AllocError>
         ensures { IfOk result (λ b. b ≡ opened (plan.problem) (plan.plan)) }
     {
-        let n = copies(plan.inst());
+        let _ = plan.inst().count();
+        let n = plan.inst().copies();
         let total = plan.total();
         let weights = Weights::make(alloc, n)?;
         let perm = identity(alloc, n)?;
@@ -99,7 +99,7 @@ impl Book {
 
     /// The lower bounds of all pairs of copies: that of their inputs, and 0 of two copies of one input.
     pub fn weights(&self) -> &Weights
-        ensures table { result.now ≡ lower_table (weights_of self.now.problem) (now_of self.now).rows }
+        ensures table { result.now ≡ lower_table self.now.problem.weights (now_of self.now).rows }
         ensures newest { result.now ≡ (seen_all self.now).state.table }
     {
         &self.weights
@@ -108,7 +108,7 @@ impl Book {
     /// What each copy goes to.
     pub fn perm(&self) -> &Perm
         ensures perm { result.now ≡ (now_of self.now).assignment }
-        ensures assigns { IsAssignment (sum (weights_of self.now.problem)) result.now }
+        ensures assigns { IsAssignment (sum self.now.problem.weights) result.now }
     {
         &self.perm
     }
@@ -217,7 +217,7 @@ impl Book {
     }
 
     fn offer_pack(&mut self, turn: u64, perm: Perm) -> Result<Accepted, Refusal>
-        requires { IsAssignment (sum (weights_of self.old.problem)) perm }
+        requires { IsAssignment (sum self.old.problem.weights) perm }
         ensures ok { (base : ℕ) → IfOk result (λ a. Accepts self.old base (entry.Pack turn perm) a.place a.saved) }
         ensures grown { OnOk result (self.new ≡ with_line self.old (entry.Pack turn perm)) }
         ensures err { (base : ℕ) → IfErr result (Refuses self.old base (entry.Pack turn perm)) }
@@ -240,7 +240,7 @@ impl Book {
     // What holds of a book at any time.
     pub(crate) fn laws(&self)
         ensures problem { IsProblem self.now.problem.points self.now.problem.inputs }
-        ensures weights { self.now.opening.weights ≡ weights_of self.now.problem }
+        ensures weights { self.now.opening.weights ≡ self.now.problem.weights }
         ensures legal { IsBook (IsJustifiedRow self.now.problem.points self.now.problem.inputs) self.now.problem.points self.now.problem.inputs (book_of self.now) }
         ensures plans { IsBelowPlans self.now.problem (bound (now_of self.now)) }
     {

@@ -5,7 +5,6 @@ ghost use Rattle.plan_law.specs.Worlds.{StopsAt};
 ghost use Rattle.book_core.specs.PlanSteps.{IsLowered, IsNoMove, IsNoSwap, IsSwappedIn};
 
 use crate::Refusal;
-use crate::copies::weight;
 use edge_table::{Edge, EdgeSeq, Rounds};
 use plan_core::{Plan, SwapFault};
 
@@ -91,12 +90,10 @@ pub(crate) fn make_swap(plan: &mut Plan, t: u32, rounds: &Rounds) -> Result<u128
     ensures kept { OnErr result (plan.new.plan ≡ plan.old.plan) }
 {
     let held = plan.total();
-    let weight = u128::from(weight(plan.inst(), t));
     match plan.swap(t, rounds) {
-        Ok(saved) => Ok(weight * u128::from(saved)),
+        Ok(saved) => Ok(plan.inst().weighed(t, saved)),
         Err(SwapFault::NotFewer { held: was, given }) => {
-            let more = weight * u128::from(given - was);
-            match held.checked_add(more) {
+            match held.checked_add(plan.inst().weighed(t, given - was)) {
                 Some(given) => Err(Refusal::NotBetter { held, given }),
                 None => Err(Refusal::OutOfMemory),
             }

@@ -7,7 +7,6 @@ use Rattle.std.proofs.Common.{Option, Some, None, false}
 use Rattle.std.specs.Prelude.{sum, is_some, IfNone}
 use Rattle.tri_check.specs.Problems.{Problem}
 use Rattle.book_core.specs.CopyTables.{SetsCopies}
-use Rattle.plan_core.specs.HeldPlans.{weights_of}
 use Rattle.book_core.specs.Entries.{pair_row}
 use Rattle.book_core.proofs.Tables.{length_table, table_grows}
 use Rattle.book_core.proofs.Offered.{assigns, same_book, numbers_on, row_held, row_accepted, row_limit}
@@ -16,7 +15,7 @@ use Rattle.book_core.proofs.book.Book.offer_row.Goals as goal
 pub set_copies-requires-clause-side : goal.set_copies-requires-clause-side
 set_copies-requires-clause-side c =
     let b : HeldBook = record { problem = c.self.inside.plan.problem; opening = c.self.inside.opening.value.plan; journal = c.self.inside.journal.items } in
-    ap (λ (t : List (List ℕ)). length t) c.self.invariant.0.table_is ∙ (length_table (weights_of b.problem) (now_of b).rows ∙ sym (ap (λ (p : Problem). sum (weights_of p)) (c.deref.ensures ∙ c.inst.ensures)))
+    ap (λ (t : List (List ℕ)). length t) c.self.invariant.0.table_is ∙ (length_table b.problem.weights (now_of b).rows ∙ sym (ap (λ (p : Problem). sum p.weights) (c.deref.ensures ∙ c.inst.ensures)))
 
 pub set_copies-requires-clause-distinct : goal.set_copies-requires-clause-distinct
 set_copies-requires-clause-distinct c = λ e.
@@ -27,7 +26,7 @@ pub perm_bound-self-inside-requires : goal.perm_bound-self-inside-requires
 perm_bound-self-inside-requires c =
     let b : HeldBook = record { problem = c.self.inside.plan.problem; opening = c.self.inside.opening.value.plan; journal = c.self.inside.journal.items } in
     let H = c.self.invariant.0 in
-    let long = c.set_copies.ensures.copies.side ∙ (ap (λ (t : List (List ℕ)). length t) H.table_is ∙ length_table (weights_of b.problem) (now_of b).rows) in
+    let long = c.set_copies.ensures.copies.side ∙ (ap (λ (t : List (List ℕ)). length t) H.table_is ∙ length_table b.problem.weights (now_of b).rows) in
     subst (λ n. IsAssignment n c.self.inside.perm) (sym long) (assigns b c.self.inside.plan.plan c.self.inside.weights c.self.inside.perm H)
 
 no_row : {X P : Type 0} (r : Option X) → false ≡ is_some r → IfNone r P → P
@@ -45,8 +44,8 @@ invariant_of-self-2 c =
     let line = Row c.args.turn c.args.row in
     let m = subst (λ (x : HeldBook). IsOffer x.problem line) (sym c.self.view_is) c.requires in
     let none = subst (λ (x : HeldBook). row_of (now_of x).rows c.args.row.i c.args.row.j ≡ None) (sym c.self.view_is) (no_row c.row.result c.if-is_some.ensures c.row.ensures.none) in
-    let sets = subst (λ (p : Problem). SetsCopies (weights_of p) c.self.inside.weights c.set_copies.new.table c.args.row.i c.args.row.j c.args.row.lower (sum (weights_of p))) (c.deref.ensures ∙ c.inst.ensures) c.set_copies.ensures.copies in
-    let grown = table_grows (weights_of b.problem) (now_of b).rows (pair_row c.args.row) c.self.inside.weights c.set_copies.new.table m.0 none H.table_is c.set_copies.ensures.after sets in
+    let sets = subst (λ (p : Problem). SetsCopies p.weights c.self.inside.weights c.set_copies.new.table c.args.row.i c.args.row.j c.args.row.lower (sum p.weights)) (c.deref.ensures ∙ c.inst.ensures) c.set_copies.ensures.copies in
+    let grown = table_grows b.problem.weights (now_of b).rows (pair_row c.args.row) c.self.inside.weights c.set_copies.new.table m.0 none H.table_is c.set_copies.ensures.after sets in
     let same = same_book b line c.self.inside.plan.problem c.push_reserved.new.self.items refl (c.push_reserved.ensures.items ∙ ap (λ l. l ++ line ∷ []) c.reserve.ensures.items) in (
       subst (λ (x : HeldBook). IsHeldBook x c.self.inside.plan.plan c.set_copies.new.table c.self.inside.perm) (sym same)
           (row_held b c.self.inside.plan.plan c.self.inside.weights c.self.inside.perm H c.args.turn c.args.row c.set_copies.new.table m none c.set_copies.ensures.after sets),
