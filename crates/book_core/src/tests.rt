@@ -56,11 +56,12 @@ fn polygon(alloc: Global, corners: &[(i64, i64)]) -> Result<Arc<Instance>, Fail>
     let mut inputs = RawInputs::make(alloc);
     inputs.push(fan(alloc, corners.len(), 0)?)?;
     inputs.push(fan(alloc, corners.len(), 1)?)?;
-    let raw = RawInstance {
-        uid: Uid::of(alloc, "polygon")?,
-        points: points_of(alloc, corners)?,
+    let raw = RawInstance::unweighted(
+        alloc,
+        Uid::of(alloc, "polygon")?,
+        points_of(alloc, corners)?,
         inputs,
-    };
+    )?;
     Ok(Instance::check(alloc, raw)?)
 }
 
@@ -94,106 +95,113 @@ fn expect_two(rt: &impl Abort, book: &Book)
     assert!(rt; book.plan().inst().inputs() == 2);
 }
 
-// The move of one edge.
+// Offers the move of one edge.
 fn offer_move(
     rt: &impl Abort,
     alloc: Global,
     book: &mut Book,
     base: u64,
     pair: (u32, u32),
-) -> Result<Result<Accepted, Refusal>, Fail> {
+    answer: Result<Accepted, Refusal>,
+) -> Result<(), Fail> {
     let edges = edges(rt, alloc, &[pair])?;
-    Ok(book.offer(base, Entry::Move { turn: 7, edges }))
+    assert!(rt; book.offer(base, Entry::Move { turn: 7, edges }) == answer);
+    Ok(())
 }
 
-// Rounds for input 1.
+// Offers rounds for input 1.
 fn offer_swap(
     rt: &impl Abort,
     book: &mut Book,
     base: u64,
     rounds: Rounds,
-) -> Result<Accepted, Refusal> {
+    answer: Result<Accepted, Refusal>,
+) {
     expect_two(rt, book);
-    book.offer(
-        base,
-        Entry::Swap {
-            turn: 7,
-            input: 1,
-            rounds,
-        },
-    )
+    let entry = Entry::Swap {
+        turn: 7,
+        input: 1,
+        rounds,
+    };
+    assert!(rt; book.offer(base, entry) == answer);
 }
 
-// The row of the two inputs.
+// Offers the row of the two inputs.
 fn offer_row(
     rt: &impl Abort,
     alloc: Global,
     book: &mut Book,
-) -> Result<Result<Accepted, Refusal>, Fail> {
+    answer: Result<Accepted, Refusal>,
+) -> Result<(), Fail> {
     expect_two(rt, book);
     let frame = Frame::of(alloc, book.plan().inst())?;
     let row = prove_pair(alloc, book.plan().inst(), &frame, 0, 1, 1000)?;
-    Ok(book.offer(0, Entry::Row { turn: 7, row }))
+    assert!(rt; book.offer(0, Entry::Row { turn: 7, row }) == answer);
+    Ok(())
 }
 
-// The best assignment where it is asked for, and else the one that is held.
-fn offer_pack(
+// Offers the assignment that is held.
+fn offer_held(
+    rt: &impl Abort,
+    book: &mut Book,
+    answer: Result<Accepted, Refusal>,
+) -> Result<(), Fail> {
+    let perm = book.perm().copy()?;
+    assert!(rt; book.offer(0, Entry::Pack { turn: 7, perm }) == answer);
+    Ok(())
+}
+
+// Offers a best assignment.
+fn offer_best(
+    rt: &impl Abort,
     alloc: Global,
     book: &mut Book,
-    best: bool,
-) -> Result<Result<Accepted, Refusal>, Fail> {
-    let perm = if best {
-        best_assignment(alloc, book.weights())?.perm
-    } else {
-        book.perm().copy()?
-    };
-    Ok(book.offer(0, Entry::Pack { turn: 7, perm }))
+    answer: Result<Accepted, Refusal>,
+) -> Result<(), Fail> {
+    let perm = best_assignment(alloc, book.weights())?.perm;
+    assert!(rt; book.offer(0, Entry::Pack { turn: 7, perm }) == answer);
+    Ok(())
 }
 
 #[test]
 fn the_square_keeps_its_opening(rt: HostRuntime) -> Result<(), Fail> {
     let mut book = opening(rt.alloc(), polygon(rt.alloc(), &SQUARE)?)?;
-    assert_eq!(rt;
-        offer_move(&rt, rt.alloc(), &mut book, 0, (0, 2))?,
-        Err(Refusal::NotBetter { held: 1, given: 1 })
-    );
-    assert_eq!(rt;
-        offer_move(&rt, rt.alloc(), &mut book, 1, (0, 2))?,
-        Err(Refusal::Stale { base: 1, front: 0 })
-    );
-    assert_eq!(rt;
-        offer_move(&rt, rt.alloc(), &mut book, 0, (1, 3))?,
-        Err(Refusal::BadMove(0))
-    );
-    let there = Edge::of(0, 2).expect(&rt, "two points");
+    let no_better = Err(Refusal::NotBetter { held: 1, given: 1 });
+    offer_move(&rt, rt.alloc(), &mut book, 0, (0, 2), no_better)?;
+    let stale = Err(Refusal::Stale { base: 1, front: 0 });
+    offer_move(&rt, rt.alloc(), &mut book, 1, (0, 2), stale)?;
+    let bad = Err(Refusal::BadMove(0));
+    offer_move(&rt, rt.alloc(), &mut book, 0, (1, 3), bad)
+}
+
+#[test]
+fn rounds_from_elsewhere_are_refused(rt: HostRuntime) -> Result<(), Fail> {
+    let mut book = opening(rt.alloc(), polygon(rt.alloc(), &SQUARE)?)?;
+    let e = Edge::of(0, 2).expect(&rt, "two points");
     let back = rounds(&rt, rt.alloc(), &[&[(0, 2)]])?;
-    assert_eq!(rt;
-        offer_swap(&rt, &mut book, 0, back),
-        Err(Refusal::BadSwap(SwapFault::Round(RoundFault::NotEdge(0, there))))
-    );
+    let bad = Err(Refusal::BadSwap(SwapFault::Round(RoundFault::NotEdge(0, e))));
+    offer_swap(&rt, &mut book, 0, back, bad);
     Ok(())
 }
 
 #[test]
 fn a_row_of_the_square_raises_its_bound(rt: HostRuntime) -> Result<(), Fail> {
     let mut book = opening(rt.alloc(), polygon(rt.alloc(), &SQUARE)?)?;
-    assert_eq!(rt;
-        offer_pack(rt.alloc(), &mut book, false)?,
-        Err(Refusal::NoRise { held: 0, given: 0 })
-    );
-    assert_eq!(rt;
-        offer_row(&rt, rt.alloc(), &mut book)?,
-        Ok(Accepted { place: 0, saved: 0 })
-    );
-    assert_eq!(rt;
-        offer_row(&rt, rt.alloc(), &mut book)?,
-        Err(Refusal::Taken(0, 1))
-    );
-    assert_eq!(rt;
-        offer_pack(rt.alloc(), &mut book, true)?,
-        Ok(Accepted { place: 1, saved: 0 })
-    );
-    assert_eq!(rt; (book.bound(), book.front(), book.len()), (1, 0, 2));
+    offer_held(&rt, &mut book, Err(Refusal::NoRise { held: 0, given: 0 }))?;
+    offer_row(
+        &rt,
+        rt.alloc(),
+        &mut book,
+        Ok(Accepted { place: 0, saved: 0 }),
+    )?;
+    offer_row(&rt, rt.alloc(), &mut book, Err(Refusal::Taken(0, 1)))?;
+    offer_best(
+        &rt,
+        rt.alloc(),
+        &mut book,
+        Ok(Accepted { place: 1, saved: 0 }),
+    )?;
+    assert!(rt; book.bound() == 1 && book.front() == 0 && book.len() == 2);
     Ok(())
 }
 
@@ -215,23 +223,39 @@ fn shorter(rt: &impl Abort, alloc: Global) -> Result<Rounds, Fail> {
 fn the_octagon_swaps_a_list_once(rt: HostRuntime) -> Result<(), Fail> {
     let mut book = opening(rt.alloc(), polygon(rt.alloc(), &OCTAGON)?)?;
     let swap = shorter(&rt, rt.alloc())?;
-    assert_eq!(rt;
-        offer_swap(&rt, &mut book, 0, swap.copy()?),
-        Ok(Accepted { place: 0, saved: 1 })
+    offer_swap(
+        &rt,
+        &mut book,
+        0,
+        swap.copy()?,
+        Ok(Accepted { place: 0, saved: 1 }),
     );
-    assert_eq!(rt;
-        offer_swap(&rt, &mut book, 0, swap.copy()?),
-        Err(Refusal::Stale { base: 0, front: 1 })
-    );
-    assert_eq!(rt;
-        offer_swap(&rt, &mut book, 1, swap),
-        Err(Refusal::NotBetter { held: 4, given: 4 })
-    );
+    let stale = Err(Refusal::Stale { base: 0, front: 1 });
+    offer_swap(&rt, &mut book, 0, swap.copy()?, stale);
+    let no_better = Err(Refusal::NotBetter { held: 4, given: 4 });
+    offer_swap(&rt, &mut book, 1, swap, no_better);
     Ok(())
 }
 
-// An offer to the first replica of a world.
-fn offer_in(rt: &impl Abort, world: &mut World, rounds: Rounds) -> Result<Reply, AllocError> {
+fn join(rt: &impl Abort, world: &mut World) -> Result<(), AllocError> {
+    assert!(rt; world.replicas() == 0);
+    assert!(rt; world.step(Event::Join)? == Reply::Joined(0));
+    Ok(())
+}
+
+fn catch(rt: &impl Abort, world: &mut World) -> Result<(), AllocError> {
+    assert!(rt; world.replicas() == 1);
+    assert!(rt; world.step(Event::Catch(0))? == Reply::Caught(1));
+    Ok(())
+}
+
+// An offer of rounds for input 1 to the first replica of a world.
+fn offer_in(
+    rt: &impl Abort,
+    world: &mut World,
+    rounds: Rounds,
+    reply: Reply,
+) -> Result<(), AllocError> {
     assert!(rt; world.replicas() == 1);
     expect_two(rt, world.book());
     let entry = Entry::Swap {
@@ -239,7 +263,8 @@ fn offer_in(rt: &impl Abort, world: &mut World, rounds: Rounds) -> Result<Reply,
         input: 1,
         rounds,
     };
-    world.step(Event::Offer(0, entry))
+    assert!(rt; world.step(Event::Offer(0, entry))? == reply);
+    Ok(())
 }
 
 #[test]
@@ -247,18 +272,13 @@ fn a_replica_catches_up(rt: HostRuntime) -> Result<(), Fail> {
     let book = opening(rt.alloc(), polygon(rt.alloc(), &OCTAGON)?)?;
     let mut world = World::at(rt.alloc(), book);
     let swap = shorter(&rt, rt.alloc())?;
-    assert!(rt; world.step(Event::Join)? == Reply::Joined(0));
-    assert!(rt;
-        offer_in(&rt, &mut world, swap.copy()?)? == Reply::Accepted(Accepted { place: 0, saved: 1 })
-    );
-    assert!(rt;
-        offer_in(&rt, &mut world, swap.copy()?)?
-            == Reply::Refused(Refusal::Stale { base: 0, front: 1 })
-    );
-    assert!(rt; world.replicas() == 1);
-    assert!(rt; world.step(Event::Catch(0))? == Reply::Caught(1));
-    assert!(rt;
-        offer_in(&rt, &mut world, swap)? == Reply::Refused(Refusal::NotBetter { held: 4, given: 4 })
-    );
+    join(&rt, &mut world)?;
+    let accepted = Reply::Accepted(Accepted { place: 0, saved: 1 });
+    offer_in(&rt, &mut world, swap.copy()?, accepted)?;
+    let stale = Reply::Refused(Refusal::Stale { base: 0, front: 1 });
+    offer_in(&rt, &mut world, swap.copy()?, stale)?;
+    catch(&rt, &mut world)?;
+    let no_better = Reply::Refused(Refusal::NotBetter { held: 4, given: 4 });
+    offer_in(&rt, &mut world, swap, no_better)?;
     Ok(())
 }
