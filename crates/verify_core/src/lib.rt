@@ -17,6 +17,9 @@ mod verifying;
 pub use fault::{No, RowWhy, VerifyFault};
 pub use verifying::{Yes, verify};
 
+#[cfg(test)]
+mod tests;
+
 /// The law of faults: what is verified has none. So the verifier says yes exactly where it can.
 pub fn laws()
     ensures verified_have_no_fault { VerifiedHaveNoFault }
