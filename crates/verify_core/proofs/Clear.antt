@@ -15,7 +15,8 @@ use Rattle.log_law.specs.Faults.{steps_fault}
 use Rattle.log_law.specs.declared.LogFault.{LogFault}
 use Rattle.log_law.proofs.Proved.{faultless_steps_follow}
 use Rattle.log_law.proofs.Lists.{take_from}
-use Rattle.flip_cnf.specs.HeldFrames.{HeldFrame, IsHeldFrame}
+use Rattle.formula_law.proofs.Proved.{frames_are_one}
+use Rattle.flip_cnf.specs.HeldFrames.{HeldFrame, Listed, Many, IsHeldFrame}
 use Rattle.replay.specs.declared.fault.ScoreFault.TheVariants as score
 use Rattle.replay.specs.Scores.{AreAllDistinct, IsScoreFault}
 use Rattle.replay.proofs.Unique.{no_fault}
@@ -34,7 +35,7 @@ use Rattle.verify_core.specs.declared.fault.VerifyFault.{VerifyFault}
 use Rattle.verify_core.specs.declared.fault.VerifyFault.TheVariants as verify
 use Rattle.verify_core.specs.Formulas.{large}
 use Rattle.verify_core.specs.RowFaults.{IsSoundEnd, IsEndFault, IsSoundRow, IsFirstWhy}
-use Rattle.verify_core.specs.Faults.{AreNamed, IsNameFault, IsPlanFault, IsRowRefusal, pair_before, AreSoundTo, IsFirstRowFault, IsWrongPlace, IsFirstWrongPlace, bound_by, Holds, IsFirstNo, number_of, OnNo, IsVerified}
+use Rattle.verify_core.specs.Faults.{AreNamed, IsNameFault, IsPlanFault, IsRowRefusal, pair_before, AreSoundTo, IsFirstRowFault, IsWrongPlace, IsFirstWrongPlace, bound_by, Holds, IsFirstNo, number_of, OnNo, IsVerified, IsShown}
 use Rattle.verify_core.proofs.Formulas.{input_triangulated}
 use Rattle.verify_core.proofs.RowParts.{one_formula, pair_clear, evidence_clear, lower_clear}
 
@@ -137,7 +138,7 @@ module _ (problem : Problem) (frame : HeldFrame) (is : IsProblem problem.points 
   plan_clear centre plan distinct =
       (λ t f. plans_have_no_fault problem.points problem.inputs centre s.lists (score.Round t f) is plan distinct (λ e. cc), λ t. plans_have_no_fault problem.points problem.inputs centre s.lists (score.NoCommonCentre t) is plan distinct (λ e. cc))
 
-  pub verified_clear : IsVerified problem frame s c → (fault : No) → ¬ Holds problem frame s c fault
+  verified_clear : IsVerified problem frame s c → (fault : No) → ¬ Holds problem frame s c fault
   verified_clear V fault =
       let plan = plan_clear V.centre V.plan V.distinct in
       clear 11 (λ _. V.solution_uid) (λ _. V.certificate_uid) (λ _. (V.lists, V.inputs)) (λ _. V.copies) (λ _. plan.0) (λ _. plan.1) (λ _. V.total) (λ _. V.rows) (λ _. V.assignment) (λ _. V.bound) fault (below fault)
@@ -210,3 +211,14 @@ module _ (problem : Problem) (frame : HeldFrame) (is : IsProblem problem.points 
 
           pub on_bound : IsAssignment (sum problem.weights) c.perm → (said bound : ℕ) → Holds problem frame s c (BoundWrong said bound) → OnNo problem s c (verify.No (BoundWrong said bound))
           on_bound assigned said bound h = (frame, record { frame_held = held; holds = h; first = λ other l g. clear 10 (λ _. named.solution_uid) (λ _. named.certificate_uid) (λ _. (named.lists, named.inputs)) (λ _. named.copies) (λ _. (plan_clear centre plan distinct).0) (λ _. (plan_clear centre plan distinct).1) (λ _. same) (λ _. rows) (λ _. assigned) (λ l. absurd (omega (arith, l))) other l g })
+
+-- the points have one frame
+one_held : (points : List Point) (held other : HeldFrame) → IsHeldFrame points held → IsHeldFrame points other → held ≡ other
+one_held points (Listed F) (Listed G) (few, is) (low, has) = let one = (frames_are_one points).2 in ap Listed (one F is ∙ sym (one G has))
+one_held points (Listed F) (Many n) (few, is) (many, has) = absurd (omega (arith, few, many))
+one_held points (Many n) (Listed G) (many, is) (few, has) = absurd (omega (arith, few, many))
+one_held points (Many n) (Many m) (many, is) (more, has) = ap Many (is ∙ sym has)
+
+pub shown_clear : (problem : Problem) (s : Solution) (c : Cert) (fault : No) → IsProblem problem.points problem.inputs → IsShown problem s c → ¬ OnNo problem s c (verify.No fault)
+shown_clear problem s c fault is (frame, V) (other, F) =
+    verified_clear problem frame is V.frame_held s c V fault (subst (λ held. Holds problem held s c fault) (one_held problem.points other frame F.frame_held V.frame_held) F.holds)

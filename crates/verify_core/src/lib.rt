@@ -1,7 +1,7 @@
 //! Whether a certificate shows the total and the bound of a solution, or the first fault.
 #![tactic(auto)]
 
-ghost use Rattle.verify_core.specs.Laws.{VerifiedHaveNoFault};
+ghost use Rattle.verify_core.specs.Laws.{ShownHaveNoFault};
 
 mod bound;
 mod end;
@@ -20,7 +20,7 @@ pub use verifying::{Yes, verify};
 #[cfg(test)]
 mod tests;
 
-/// The law of faults: what is verified has none. So the verifier says yes exactly where it can.
+/// The law of faults: what is shown has none. So the verifier says yes exactly where it can.
 pub fn laws()
-    ensures verified_have_no_fault { VerifiedHaveNoFault }
+    ensures { ShownHaveNoFault }
 {}

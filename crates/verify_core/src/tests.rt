@@ -130,8 +130,17 @@ fn edge(rt: &impl Abort, a: u32, b: u32) -> Edge {
 fn the_square_is_shown(rt: HostRuntime) -> Result<(), Fail> {
     let inst = square(rt.alloc(), [1, 1])?;
     let s = solution(rt.alloc(), "Q", 2, Some(edge(&rt, 0, 2)))?;
-    let yes = answer(rt.alloc(), &inst, &s, NO_EDIT, NO_EDIT)?.ok();
-    assert_eq!(rt; yes, Some(Yes { total: 1, bound: 1 }));
+    let rows: [(Edit, Result<Yes, VerifyFault>); 2] = [
+        (NO_EDIT, Ok(Yes { total: 1, bound: 1 })),
+        (
+            (6, "bound 2\n"),
+            Err(VerifyFault::No(No::BoundWrong { said: 2, is: 1 })),
+        ),
+    ];
+    for (edit, expected) in rows {
+        let got = answer(rt.alloc(), &inst, &s, edit, NO_EDIT)?;
+        assert_eq!(rt; got, expected);
+    }
     Ok(())
 }
 
@@ -139,7 +148,7 @@ fn the_square_is_shown(rt: HostRuntime) -> Result<(), Fail> {
 fn an_edited_certificate_is_refused(rt: HostRuntime) -> Result<(), Fail> {
     let inst = square(rt.alloc(), [1, 1])?;
     let s = solution(rt.alloc(), "Q", 2, Some(edge(&rt, 0, 2)))?;
-    let rows: [(Edit, Edit, No); 6] = [
+    let rows: [(Edit, Edit, No); 5] = [
         ((2, "uid 52\n"), NO_EDIT, No::UidCertificate),
         (
             (3, "inputs 3\n"),
@@ -148,7 +157,6 @@ fn an_edited_certificate_is_refused(rt: HostRuntime) -> Result<(), Fail> {
         ),
         ((5, "total 0\n"), NO_EDIT, No::TotalWrong { said: 0, is: 1 }),
         ((13, "pack 1 1\n"), NO_EDIT, No::NotPermutation(1)),
-        ((6, "bound 2\n"), NO_EDIT, No::BoundWrong { said: 2, is: 1 }),
         (
             (9, "row 1 0 1\n"),
             NO_EDIT,
