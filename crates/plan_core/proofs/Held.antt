@@ -1,13 +1,10 @@
 -- What is known of a held plan: its lists, and where edges flip.
 use Rattle.std.proofs.Common.{◌≡◌, ◌∙◌, ℕ, zero, suc, ◌+◌, ◌<◌, ◌≤◌, Option, Some, None, List, [], ◌∷◌, ◌++◌, length, get_or, map, All, slice_get, refl, sym, ap, ap₂, subst, arith}
-use Rattle.std.specs.Prelude.{replicate, sum}
-use Rattle.std.proofs.lemmas.List.{length-map, length-replicate}
-use Rattle.std.proofs.lemmas.List.Sums.{sum_by-cons}
 use Rattle.std.specs.List.{AllZip}
 use Rattle.std.specs.Option.{is_some}
 use Rattle.std.proofs.lemmas.Option.{get_or_from_slice_get, slice_get_within}
 use Rattle.std.proofs.lemmas.Slice.Zip.{AllZip-long}
-use Rattle.std.proofs.lemmas.List.Elements.{All-nil, All-cons, All-replicate, Contains-get_or}
+use Rattle.std.proofs.lemmas.List.Elements.{All-nil, All-cons, Contains-get_or}
 use Rattle.std.proofs.lemmas.List.Kept.{AllPairs-filter}
 use Rattle.geo_orient.specs.declared.Point.{Point}
 use Rattle.edge_table.specs.declared.edge.Edge.{Edge}
@@ -26,8 +23,8 @@ use Rattle.flip_mesh.specs.Build.{AreFlippable}
 use Rattle.round_pack.specs.Tracks.{FlipTrack, flip}
 use Rattle.bound_law.specs.Bounds.{input_at}
 use Rattle.plan_law.specs.Images.{image_of, flippable, after_flip}
-use Rattle.tri_theory.specs.Rounds.{AreWeights, weighted_sum}
-use Rattle.plan_law.specs.Plans.{IsInstance, Plan, IsPlanOf, plan_total, with_flip, followed, followed_all, last_moves, moves}
+use Rattle.tri_theory.specs.Rounds.{weighted_sum}
+use Rattle.plan_law.specs.Plans.{IsInstance, Plan, IsPlanOf, with_flip, followed, followed_all, last_moves, moves}
 use Rattle.plan_law.proofs.Proved.{images_are_found, flips_lead_on, flippable_edges, plans_have_schedules, centres_are_triangulations, following_keeps_plans}
 use Rattle.plan_core.specs.HeldPlans.{LeadsTo, HasSchedules, TotalsAfter, lists_of, list_at}
 use Rattle.plan_core.specs.States.{plan_of, IsHeld}

@@ -2,7 +2,6 @@
 use Rattle.std.proofs.Common.{◌≡◌, ◌∙◌, ℕ, List, Some, slice_get, ap}
 use Rattle.std.specs.Option.{option_map}
 use Rattle.std.proofs.lemmas.Option.{slice_get-map}
-use Rattle.flip_list_law.specs.declared.Flip.{Flip}
 use Rattle.round_pack.specs.Tracks.{FlipTrack}
 use Rattle.plan_core.specs.HeldPlans.{lists_of}
 

@@ -1,5 +1,5 @@
 -- What is seen of a plan, and what the calls make of it.
-use Rattle.std.specs.Prelude.{◌≡◌, ℕ, min, Some, List, [], ◌∷◌, length, map, slice_index_or}
+use Rattle.std.specs.Prelude.{◌≡◌, ℕ, min, Some, List, [], ◌∷◌, map, slice_index_or}
 use Rattle.geo_orient.specs.declared.Point.{Point}
 use Rattle.edge_table.specs.declared.edge.Edge.{Edge}
 use Rattle.tri_theory.specs.Rounds.{IsPlan, total}

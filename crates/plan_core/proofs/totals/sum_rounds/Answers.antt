@@ -1,4 +1,4 @@
-use Rattle.std.proofs.Common.{◌≡◌, ◌∙◌, ◌+◌, ◌*◌, ◌≤◌, length, get_or, map, sym, ap, ap₂, arith}
+use Rattle.std.proofs.Common.{◌∙◌, ◌+◌, ◌*◌, ◌≤◌, length, get_or, map, sym, ap, ap₂, arith}
 use Rattle.std.proofs.lemmas.List.{length-map, take_all}
 use Rattle.tri_theory.specs.Rounds.{weighted_sum}
 use Rattle.tri_theory.proofs.Totals.{weighted_none, weighted_more}

@@ -1,4 +1,4 @@
-use Rattle.std.proofs.Common.{◌≡◌, ◌∙◌, ◌+◌, ◌*◌, length, get_or, take, ap, ap₂, sym, arith}
+use Rattle.std.proofs.Common.{◌∙◌, ◌+◌, ◌*◌, length, get_or, ap, ap₂, sym, arith}
 use Rattle.std.proofs.lemmas.List.{take_all}
 use Rattle.tri_theory.specs.Rounds.{total}
 use Rattle.tri_theory.proofs.Totals.{weighted_none, weighted_more}
