@@ -31,16 +31,16 @@ module _ {X : Type 0} where
   there_within (y ∷ xs) zero x e = omega arith
   there_within (y ∷ xs) (suc n) x e = let l = there_within xs n x e in omega (arith, l)
 
-  there_later : (xs ys : List X) (n : ℕ) (x : X) → slice_get xs n ≡ Some x → slice_get (xs ++ ys) n ≡ Some x
+  pub there_later : (xs ys : List X) (n : ℕ) (x : X) → slice_get xs n ≡ Some x → slice_get (xs ++ ys) n ≡ Some x
   there_later [] ys n x e = absurd (cc)
   there_later (y ∷ xs) ys zero x e = e
   there_later (y ∷ xs) ys (suc n) x e = there_later xs ys n x e
 
 module _ (limits : Limits) (ground : HeldPlan) (frame : HeldFrame) (u : ℕ) (seen journal : List Entry) (p : IsPrefix seen journal) where
-  row_later : (place : ℕ) → IsOwnRow limits ground frame u seen place → IsOwnRow limits ground frame u journal place
+  pub row_later : (place : ℕ) → IsOwnRow limits ground frame u seen place → IsOwnRow limits ground frame u journal place
   row_later place R = record { found = R.found; there = ap (λ (j : List Entry). slice_get j place) (sym p.1) ∙ there_later seen p.0 place _ R.there; of_job = R.of_job; earned = R.earned }
 
-  no_rise_later : (held given : ℕ) → IsNoRise limits ground u seen held given → IsNoRise limits ground u journal held given
+  pub no_rise_later : (held given : ℕ) → IsNoRise limits ground u seen held given → IsNoRise limits ground u journal held given
   no_rise_later held given R = let l = prefix_shorter seen journal p in let a = R.some in let b = R.fewer in record {
     of_job = R.of_job;
     entries = R.entries;
@@ -57,7 +57,7 @@ module _ (limits : Limits) (ground : HeldPlan) (frame : HeldFrame) (u : ℕ) (se
   line_later : (place : ℕ) (line : law.Entry Shown) → slice_get (lines_of seen) place ≡ Some line → slice_get (lines_of journal) place ≡ Some line
   line_later place line e = ap (λ (j : List Entry). slice_get (lines_of j) place) (sym p.1) ∙ (ap (λ (l : List (law.Entry Shown)). slice_get l place) (map-append line_of seen p.0) ∙ there_later (lines_of seen) (lines_of p.0) place line e)
 
-  step_later : (place saved : ℕ) → IsOwnStep limits ground u seen place saved → IsOwnStep limits ground u journal place saved
+  pub step_later : (place saved : ℕ) → IsOwnStep limits ground u seen place saved → IsOwnStep limits ground u journal place saved
   step_later place saved R = let w = there_within (lines_of seen) place R.line R.there in let k = length-lines seen in record {
     line = R.line;
     there = line_later place R.line R.there;
@@ -65,7 +65,7 @@ module _ (limits : Limits) (ground : HeldPlan) (frame : HeldFrame) (u : ℕ) (se
     saves = R.saves ∙ ap₂ ◌-◌ (ap (λ (s : State Shown). plan_total s.plan) (sym (state_later ground seen journal place p (omega (arith, w, k))))) (ap (λ (s : State Shown). plan_total s.plan) (sym (state_later ground seen journal (place + 1) p (omega (arith, w, k)))));
   }
 
-  late_later : (base is : ℕ) → IsLateStep limits ground u seen base is → IsLateStep limits ground u journal base is
+  pub late_later : (base is : ℕ) → IsLateStep limits ground u seen base is → IsLateStep limits ground u journal base is
   late_later base is R = let a = R.later in let b = R.no_later in let g = front_grows seen journal p in record {
     line = R.line;
     answered = ap (answer_on limits ground u) (plan_later ground seen journal base p (omega (arith, a, b))) ∙ R.answered;
@@ -73,7 +73,7 @@ module _ (limits : Limits) (ground : HeldPlan) (frame : HeldFrame) (u : ℕ) (se
     no_later = omega (arith, b, g);
   }
 
-  pack_later : (place limit : ℕ) → IsOwnPack limits ground u seen place limit → IsOwnPack limits ground u journal place limit
+  pub pack_later : (place limit : ℕ) → IsOwnPack limits ground u seen place limit → IsOwnPack limits ground u journal place limit
   pack_later place limit R = let w = there_within seen place _ R.there in record {
     of_job = R.of_job;
     perm = R.perm;
@@ -81,8 +81,8 @@ module _ (limits : Limits) (ground : HeldPlan) (frame : HeldFrame) (u : ℕ) (se
     limit_is = R.limit_is ∙ ap bound (sym (state_later ground seen journal (place + 1) p (omega (arith, w))));
   }
 
-  none_later : (base : ℕ) → Fits limits ground frame u seen (outcome.NotBetter base) → Fits limits ground frame u journal (outcome.NotBetter base)
+  pub none_later : (base : ℕ) → Fits limits ground frame u seen (outcome.NotBetter base) → Fits limits ground frame u journal (outcome.NotBetter base)
   none_later base h = let g = front_grows seen journal p in let a = h.0 in (omega (arith, g, a), subst (λ (q : Plan). FindsNone limits ground q (job_at limits ground u)) (sym (plan_later ground seen journal base p h.0)) h.1)
 
-  stuck_later : (base round : ℕ) → Fits limits ground frame u seen (outcome.Stuck base round) → Fits limits ground frame u journal (outcome.Stuck base round)
+  pub stuck_later : (base round : ℕ) → Fits limits ground frame u seen (outcome.Stuck base round) → Fits limits ground frame u journal (outcome.Stuck base round)
   stuck_later base round h = let g = front_grows seen journal p in let a = h.0 in (omega (arith, g, a), subst (λ (q : Plan). Sticks ground q round (job_at limits ground u)) (sym (plan_later ground seen journal base p h.0)) h.1)

@@ -79,7 +79,7 @@ pub same_plan : (ground : HeldPlan) (seen journal : List Entry) → IsPrefix see
 same_plan ground seen journal p e = sym (at_base ground seen journal p) ∙ (ap (plan_at ground journal) e ∙ at_base ground journal journal (same_prefix journal journal refl))
 
 module _ {X : Type 0} where
-  last_there : (xs : List X) (y : X) (n : ℕ) → n ≡ length xs → slice_get (xs ++ y ∷ []) n ≡ Some y
+  pub last_there : (xs : List X) (y : X) (n : ℕ) → n ≡ length xs → slice_get (xs ++ y ∷ []) n ≡ Some y
   last_there xs y n e = ap (slice_get (xs ++ y ∷ [])) e ∙ seam xs
     where
       seam : (xs : List X) → slice_get (xs ++ y ∷ []) (length xs) ≡ Some y
@@ -94,14 +94,14 @@ module _ (limits : Limits) (frame : HeldFrame) (u : ℕ) (b : HeldBook) (seen : 
   abbrev base : ℕ
   base = front (lines_of seen)
 
-  grown : (x : Entry) → lines_of (b.journal ++ x ∷ []) ≡ lines_of b.journal ++ line_of x ∷ []
+  pub grown : (x : Entry) → lines_of (b.journal ++ x ∷ []) ≡ lines_of b.journal ++ line_of x ∷ []
   grown x = map-append line_of b.journal (x ∷ [])
 
-  before_last : (x : Entry) (n : ℕ) → n ≡ length (lines_of b.journal) → state_at G (b.journal ++ x ∷ []) n ≡ now_of b
+  pub before_last : (x : Entry) (n : ℕ) → n ≡ length (lines_of b.journal) → state_at G (b.journal ++ x ∷ []) n ≡ now_of b
   before_last x n e =
       ap (state_after b.problem.points b.problem.inputs (opening_state b.opening)) (ap (take n) (grown x) ∙ (ap (λ (k : ℕ). take k (lines_of b.journal ++ line_of x ∷ [])) e ∙ take-append_seam (lines_of b.journal) (line_of x ∷ [])))
 
-  with_last : (x : Entry) (n : ℕ) → n ≡ length (lines_of b.journal) → take (n + 1) (lines_of (b.journal ++ x ∷ [])) ≡ lines_of (b.journal ++ x ∷ [])
+  pub with_last : (x : Entry) (n : ℕ) → n ≡ length (lines_of b.journal) → take (n + 1) (lines_of (b.journal ++ x ∷ [])) ≡ lines_of (b.journal ++ x ∷ [])
   with_last x n e = take_all (n + 1) (lines_of (b.journal ++ x ∷ [])) (let l = ap (λ (j : List (law.Entry Shown)). length j) (grown x) in omega (arith, l, e, length-append (lines_of b.journal) (line_of x ∷ [])))
 
   own_step : (x : Entry) (place saved : ℕ) → is_plan_entry (line_of x) ≡ true → Accepts b base x place saved → answer_on limits G u (now_at G seen).plan ≡ Some (line_of x) → IsOwnStep limits G u (b.journal ++ x ∷ []) place saved
@@ -148,7 +148,7 @@ module _ (limits : Limits) (frame : HeldFrame) (u : ℕ) (b : HeldBook) (seen : 
     no_later = let e = h.2 in omega (arith, e);
   }
 
-  best_of : (ws : List ℕ) (rows : List (PairRow Shown)) (perm : List ℕ) → HasGreatestSum (weight (lower_table ws rows)) (length (lower_table ws rows)) perm → IsBest (copy_lower ws (lower_of rows)) (sum ws) perm
+  pub best_of : (ws : List ℕ) (rows : List (PairRow Shown)) (perm : List ℕ) → HasGreatestSum (weight (lower_table ws rows)) (length (lower_table ws rows)) perm → IsBest (copy_lower ws (lower_of rows)) (sum ws) perm
   best_of ws rows perm h = by_count (length (lower_table ws rows)) (length_table ws rows) h
     where
       halves : (s t : ℕ) → s ≤ t → (s + 1) / 2 ≤ (t + 1) / 2
@@ -162,7 +162,7 @@ module _ (limits : Limits) (frame : HeldFrame) (u : ℕ) (b : HeldBook) (seen : 
                 let x = bound_same ws rows other B in let y = bound_same ws rows perm A in omega (arith, l, x, y),
           )
 
-  whole : state_at G b.journal (length b.journal) ≡ now_of b
+  pub whole : state_at G b.journal (length b.journal) ≡ now_of b
   whole = ap (state_after b.problem.points b.problem.inputs (opening_state b.opening)) (take_all (length b.journal) (lines_of b.journal) (let l = length-lines b.journal in omega (arith, l)))
 
   no_rise : (turn held given : ℕ) (perm : List ℕ) → Unfit b (entry.Pack turn perm) (worlds.NoRise held given) → IsAnswerTo limits frame u b.problem (now_at G seen).plan (table_at (now_at G seen)) base (entry.Pack turn perm)

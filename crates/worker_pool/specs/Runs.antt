@@ -8,21 +8,13 @@ use mathlib.Core.List.{IsPrefix}
 use Rattle.plan_core.specs.HeldPlans.{HeldPlan}
 use Rattle.book_core.specs.declared.entry.Entry.{Entry}
 use Rattle.book_core.specs.Entries.{line_of, lines_of}
-use Rattle.book_core.specs.HeldBooks.{HeldBook, ground_of}
+use Rattle.book_core.specs.HeldBooks.{HeldBook, ground_of, now_of}
 use Rattle.worker_pool.specs.declared.limits.Limits.{Limits}
 use Rattle.worker_pool.specs.declared.outcome.Outcome.{Outcome}
 use Rattle.worker_pool.specs.declared.outcome.Outcome.TheVariants.{Published, NotBetter, Stuck, Stale, Kept, Taken, Packed, NoRise, NoMemory}
 use Rattle.worker_pool.specs.Jobs.{order_of}
 use Rattle.worker_pool.specs.Outcomes.{state_at, IsBestAt, Fits, made_by, saved_by}
 use Rattle.worker_pool.specs.Turns.{now_at}
-
-abbrev pub is_published : Outcome → Bool
-is_published (Published place saved) = true
-is_published _ = false
-
-abbrev pub is_stale : Outcome → Bool
-is_stale (Stale base front) = true
-is_stale _ = false
 
 -- where an outcome that made an entry says that it stands
 abbrev pub StandsAt : Outcome → ℕ → Type 0
@@ -31,20 +23,13 @@ StandsAt (Kept place) n = place ≡ n
 StandsAt (Packed place limit) n = place ≡ n
 StandsAt _ n = ⊥
 
--- one outcome for each turn, which fits the journal. Each entry is that of exactly one turn, and what the turns saved is what the total fell by. No turn found its row there
+-- of the first turns of a run, each outcome fits the journal. Each entry is that of exactly one turn, and what the turns saved is what the total fell by
 pub record AreTurns (limits : Limits) (frame : HeldFrame) (ground : HeldPlan) (journal : List Entry) (outcomes : List Outcome) : Type 0 where
-  pub one_each : length outcomes ≡ turns_of (order_of limits) ground.problem.inputs
   pub fit : (u : ℕ) (outcome : Outcome) → slice_get outcomes u ≡ Some outcome → Fits limits ground frame u journal outcome
   pub made : sum_by made_by outcomes ≡ length journal
   pub owned : (n : ℕ) (entry : Entry) → slice_get journal n ≡ Some entry → (outcome : Outcome) × (slice_get outcomes (turn_of (line_of entry)) ≡ Some outcome) × StandsAt outcome n
   pub once : (u v n : ℕ) (one other : Outcome) → slice_get outcomes u ≡ Some one → slice_get outcomes v ≡ Some other → StandsAt one n → StandsAt other n → u ≡ v
   pub saved : plan_total (now_at ground journal).plan + sum_by saved_by outcomes ≡ plan_total ground.plan
-  pub none_taken : (u i j : ℕ) → slice_get outcomes u ≢ Some (Taken i j)
-
--- with workers few turns come too late
-pub record AreTurnsOfWorkers (workers : ℕ) (limits : Limits) (frame : HeldFrame) (ground : HeldPlan) (journal : List Entry) (outcomes : List Outcome) : Type 0 where
-  pub turns : AreTurns limits frame ground journal outcomes
-  pub few : count_by is_stale outcomes ≤ (workers - 1) * count_by is_published outcomes
 
 -- how many entries the turns below u made
 abbrev pub entries_below : List Outcome → ℕ → ℕ
@@ -59,18 +44,20 @@ IsInOrder ground journal n (NoRise held given) =
     (held ≡ bound (state_at ground journal n)) × ((perm : List ℕ) × IsBestAt (state_at ground journal n) perm × (given ≡ bound_of (state_at ground journal n) perm))
 IsInOrder ground journal n (Published place saved) = place ≡ n
 IsInOrder ground journal n (Kept place) = place ≡ n
-IsInOrder ground journal n (Packed place limit) = place ≡ n
-IsInOrder ground journal n (Taken i j) = ⊥
+IsInOrder ground journal n (Packed place limit) = (place ≡ n) × ((perm : List ℕ) × IsBestAt (state_at ground journal n) perm × (limit ≡ bound_of (state_at ground journal n) perm))
+IsInOrder ground journal n (Taken i j) = Unit {0}
 IsInOrder ground journal n NoMemory = Unit {0}
 
+-- the first turns of a run, one after the other
 pub record AreTurnsInOrder (limits : Limits) (frame : HeldFrame) (ground : HeldPlan) (journal : List Entry) (outcomes : List Outcome) : Type 0 where
   pub turns : AreTurns limits frame ground journal outcomes
   pub in_order : (u : ℕ) (outcome : Outcome) → slice_get outcomes u ≡ Some outcome → IsInOrder ground journal (entries_below outcomes u) outcome
 
--- one turn on a book in the hands of one thread: the journal begins with the one before, and the outcome fits it
+-- one turn on a book in the hands of one thread: the journal begins with the one before, and the outcome fits it and is of the plan, the rows and the bound before it. The total falls by what is saved
 pub record IsTurnAlone (limits : Limits) (frame : HeldFrame) (u : ℕ) (old new : HeldBook) (outcome : Outcome) : Type 0 where
   pub of_ground : ground_of new ≡ ground_of old
   pub grows : IsPrefix old.journal new.journal
   pub fits : Fits limits (ground_of old) frame u new.journal outcome
   pub made : length new.journal ≡ length old.journal + made_by outcome
-  pub fresh : is_stale outcome ≡ false
+  pub in_order : IsInOrder (ground_of old) new.journal (length old.journal) outcome
+  pub saved : plan_total (now_of new).plan + saved_by outcome ≡ plan_total (now_of old).plan
