@@ -11,6 +11,7 @@ mod walking;
 
 pub use descending::{Descent, descend};
 pub use improving::improve;
+pub use lowering::first_move;
 pub use settling::settle;
 pub use walking::{Walk, walk_turn, walker};
 

@@ -65,8 +65,8 @@ fn first_of(plan: &Plan, moves: &MoveList) -> Result<Option<EdgeSeq>, AllocError
     Ok(None)
 }
 
-// The first move that lowers the total.
-pub(crate) fn first_move(plan: &Plan) -> Result<Option<EdgeSeq>, AllocError>
+/// The first move that lowers the total, as `Plan::moves` lists them. A move of one edge is tried without a copy of the plan, and a move of several on one.
+pub fn first_move(plan: &Plan) -> Result<Option<EdgeSeq>, AllocError>
     ensures { IfOk result (λ first. first ≡ first_lowering plan.now.problem.points plan.now.plan) }
 {
     let moves = plan.moves()?;

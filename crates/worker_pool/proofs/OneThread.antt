@@ -29,9 +29,10 @@ use Rattle.worker_pool.specs.Outcomes.{state_at, IsBestAt, Fits, made_by, saved_
 use Rattle.worker_pool.specs.Turns.{taken, kind_of, taken_as, outcome_for, now_at}
 use Rattle.worker_pool.specs.Works.{table_at, IsAnswerTo, IsWork}
 use Rattle.worker_pool.specs.Runs.{IsTurnAlone, IsInOrder}
+use Rattle.worker_pool.proofs.Best.{best_of}
 use Rattle.worker_pool.proofs.Prefixes.{same_prefix}
 use Rattle.worker_pool.proofs.Replicas.{length-lines, all_at}
-use Rattle.worker_pool.proofs.Turned.{best_of, whole, before_last, fits_answer, fits_end}
+use Rattle.worker_pool.proofs.Turned.{whole, before_last, fits_answer, fits_end}
 
 -- the state after one entry more
 pub state_more : (points : List Point) (inputs : List (List Edge)) (s : State Shown) (lines : List (law.Entry Shown)) (line : law.Entry Shown) → state_after points inputs s (lines ++ line ∷ []) ≡ after_entry points inputs (state_after points inputs s lines) line
@@ -67,7 +68,7 @@ module _ (limits : Limits) (frame : HeldFrame) (u : ℕ) (b : HeldBook) where
     e ∙ length-lines b.journal,
     (
       perm,
-      subst (λ (s : State Shown). IsBestAt s perm) (sym (before (entry.Pack turn perm))) (best_of limits frame u b b.journal begins (now_of b).plan.weights (now_of b).rows perm h.2),
+      subst (λ (s : State Shown). IsBestAt s perm) (sym (before (entry.Pack turn perm))) (best_of (now_of b).plan.weights (now_of b).rows perm h.2),
       l ∙ (ap bound (now_more b (entry.Pack turn perm)) ∙ ap (λ (s : State Shown). bound_of s perm) (sym (before (entry.Pack turn perm)))),
     ),
   )
@@ -101,7 +102,7 @@ module _ (limits : Limits) (frame : HeldFrame) (u : ℕ) (b : HeldBook) where
     r.0 ∙ ap bound (sym all_now),
     (
       perm,
-      subst (λ (s : State Shown). IsBestAt s perm) (sym all_now) (best_of limits frame u b b.journal begins (now_of b).plan.weights (now_of b).rows perm h.2),
+      subst (λ (s : State Shown). IsBestAt s perm) (sym all_now) (best_of (now_of b).plan.weights (now_of b).rows perm h.2),
       r.1 ∙ ap (λ (s : State Shown). bound_of s perm) (sym all_now),
     ),
   )

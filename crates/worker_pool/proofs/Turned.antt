@@ -40,6 +40,7 @@ use Rattle.vcell.specs.Passes.{LockView, PassView, IsPassOf}
 use Rattle.worker_pool.specs.Turns.{IsReplicaAt, IsAnswered, IsPublished, IsTurn, taken, kind_of, outcome_for, now_at}
 use Rattle.worker_pool.specs.Works.{ground_for, table_at, IsAnswerTo, IsWork}
 use Rattle.worker_pool.specs.declared.work.Work.TheVariants.{Offers, Ends}
+use Rattle.worker_pool.proofs.Best.{best_of}
 use Rattle.worker_pool.proofs.Prefixes.{same_prefix, prefix_on}
 use Rattle.worker_pool.proofs.Replicas.{length-lines, prefix_shorter, first_lines, replica_later}
 
@@ -147,20 +148,6 @@ module _ (limits : Limits) (frame : HeldFrame) (u : ℕ) (b : HeldBook) (seen : 
     later = let g = front_grows seen b.journal begins in let n = h.0.1 in omega (arith, g, n, h.1, h.2);
     no_later = let e = h.2 in omega (arith, e);
   }
-
-  pub best_of : (ws : List ℕ) (rows : List (PairRow Shown)) (perm : List ℕ) → HasGreatestSum (weight (lower_table ws rows)) (length (lower_table ws rows)) perm → IsBest (copy_lower ws (lower_of rows)) (sum ws) perm
-  best_of ws rows perm h = by_count (length (lower_table ws rows)) (length_table ws rows) h
-    where
-      halves : (s t : ℕ) → s ≤ t → (s + 1) / 2 ≤ (t + 1) / 2
-      halves s t l = omega (arith, l)
-
-      by_count : (k : ℕ) → k ≡ sum ws → HasGreatestSum (weight (lower_table ws rows)) k perm → IsBest (copy_lower ws (lower_of rows)) (sum ws) perm
-      by_count k e g =
-          let A : IsAssignment (sum ws) perm = subst (λ (m : ℕ). IsAssignment m perm) e g.0 in (
-            A,
-            λ other B. let l = halves (assignment_sum (weight (lower_table ws rows)) other) (assignment_sum (weight (lower_table ws rows)) perm) (g.1 other (subst (λ (m : ℕ). IsAssignment m other) (sym e) B)) in
-                let x = bound_same ws rows other B in let y = bound_same ws rows perm A in omega (arith, l, x, y),
-          )
 
   pub whole : state_at G b.journal (length b.journal) ≡ now_of b
   whole = ap (state_after b.problem.points b.problem.inputs (opening_state b.opening)) (take_all (length b.journal) (lines_of b.journal) (let l = length-lines b.journal in omega (arith, l)))

@@ -37,7 +37,7 @@ fn job_on(limits: &Limits, plan: &Plan, u: u64) -> Job
 }
 
 // An assignment of the copies that is best under a table of their lower bounds.
-fn best_of(alloc: Global, plan: &Plan, weights: &Weights) -> Result<Perm, AllocError>
+pub(crate) fn best_of(alloc: Global, plan: &Plan, weights: &Weights) -> Result<Perm, AllocError>
     requires table { length weights.now ≡ sum plan.now.plan.weights }
     ensures assigns { IfOk result (IsAssignment (sum plan.now.problem.weights)) }
     ensures best { IfOk result (HasGreatestSum (weight weights.now) (length weights.now)) }
