@@ -155,7 +155,7 @@ module _ (problem : Problem) (frame : HeldFrame) (is : IsProblem problem.points 
       below (NotPermutation q) = omega arith
       below (BoundWrong said is) = omega arith
 
-  name_first : (fault : No) → IsNameFault problem frame s c fault → IsFirstNo problem frame s c fault
+  name_first : (fault : No) → IsNameFault problem s c fault → IsFirstNo problem frame s c fault
   name_first UidSolution h = record { frame_held = held; holds = h; first = λ other l g. clear 1 (λ l. absurd (omega (arith, l))) (λ l. absurd (omega (arith, l))) (λ l. absurd (omega (arith, l))) (λ l. absurd (omega (arith, l))) (λ l. absurd (omega (arith, l))) (λ l. absurd (omega (arith, l))) (λ l. absurd (omega (arith, l))) (λ l. absurd (omega (arith, l))) (λ l. absurd (omega (arith, l))) (λ l. absurd (omega (arith, l))) other l g }
   name_first UidCertificate h = record { frame_held = held; holds = h.1; first = λ other l g. clear 2 (λ _. h.0) (λ l. absurd (omega (arith, l))) (λ l. absurd (omega (arith, l))) (λ l. absurd (omega (arith, l))) (λ l. absurd (omega (arith, l))) (λ l. absurd (omega (arith, l))) (λ l. absurd (omega (arith, l))) (λ l. absurd (omega (arith, l))) (λ l. absurd (omega (arith, l))) (λ l. absurd (omega (arith, l))) other l g }
   name_first (InputCount said is) h = record { frame_held = held; holds = h.2; first = λ other l g. clear 3 (λ _. h.0) (λ _. h.1) (λ l. absurd (omega (arith, l))) (λ l. absurd (omega (arith, l))) (λ l. absurd (omega (arith, l))) (λ l. absurd (omega (arith, l))) (λ l. absurd (omega (arith, l))) (λ l. absurd (omega (arith, l))) (λ l. absurd (omega (arith, l))) (λ l. absurd (omega (arith, l))) other l g }
@@ -167,7 +167,7 @@ module _ (problem : Problem) (frame : HeldFrame) (is : IsProblem problem.points 
   name_first (NotPermutation q) h = absurd h
   name_first (BoundWrong said is) h = absurd h
 
-  pub on_name : (fault : No) → IsNameFault problem frame s c fault → OnNo problem s c (verify.No fault)
+  pub on_name : (fault : No) → IsNameFault problem s c fault → OnNo problem s c (verify.No fault)
   on_name fault h = (frame, name_first fault h)
 
   module _ (named : AreNamed problem s c) where

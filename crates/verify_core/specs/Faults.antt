@@ -65,17 +65,21 @@ abbrev pub bound_by : List ℕ → List Row → List ℕ → ℕ
 bound_by weights rows perm = assignment_bound (copy_lower weights (lower_of (map pair_row rows))) perm
 
 -- ---- the faults
-module _ (problem : Problem) (frame : HeldFrame) (s : Solution) (c : Cert) where
-  -- a number of lists, or else of inputs, that isn't that of the instance's inputs
-  abbrev pub IsCountFault : ℕ → ℕ → Type 0
-  IsCountFault said is = (is ≡ length problem.inputs) × (said ≢ is) × ((said ≡ length s.lists) ⊎ ((length s.lists ≡ is) × (said ≡ c.inputs)))
+-- a number of lists, or else of inputs, that isn't that of the instance's inputs
+abbrev pub IsCountFault : Problem → Solution → Cert → ℕ → ℕ → Type 0
+IsCountFault problem s c said is = (is ≡ length problem.inputs) × (said ≢ is) × ((said ≡ length s.lists) ⊎ ((length s.lists ≡ is) × (said ≡ c.inputs)))
 
+-- a number of copies that isn't the instance's
+abbrev pub IsCopyFault : Problem → Cert → ℕ → ℕ → Type 0
+IsCopyFault problem c said is = (said ≡ c.copies) × (is ≡ sum problem.weights) × (said ≢ is)
+
+module _ (problem : Problem) (frame : HeldFrame) (s : Solution) (c : Cert) where
   -- the fault is there
   abbrev pub Holds : No → Type 0
   Holds UidSolution = s.uid ≢ problem.uid
   Holds UidCertificate = c.uid ≢ problem.uid
-  Holds (InputCount said is) = IsCountFault said is
-  Holds (CopyCount said is) = (said ≡ c.copies) × (is ≡ sum problem.weights) × (said ≢ is)
+  Holds (InputCount said is) = IsCountFault problem s c said is
+  Holds (CopyCount said is) = IsCopyFault problem c said is
   Holds (Round t fault) = IsScoreFault problem.points problem.inputs s.lists (score.Round t fault)
   Holds (NoCommonCentre t) = IsScoreFault problem.points problem.inputs s.lists (score.NoCommonCentre t)
   Holds (TotalWrong said is) = (said ≡ c.total) × (is ≡ total problem.weights s.lists) × (said ≢ is)
@@ -137,12 +141,12 @@ OnNo problem s c verify.OutOfMemory = ⊤
 
 -- ---- what the verifier's steps find
 -- the first fault of names and counts
-abbrev pub IsNameFault : Problem → HeldFrame → Solution → Cert → No → Type 0
-IsNameFault problem frame s c UidSolution = s.uid ≢ problem.uid
-IsNameFault problem frame s c UidCertificate = (s.uid ≡ problem.uid) × (c.uid ≢ problem.uid)
-IsNameFault problem frame s c (InputCount said is) = (s.uid ≡ problem.uid) × (c.uid ≡ problem.uid) × IsCountFault problem frame s c said is
-IsNameFault problem frame s c (CopyCount said is) = (s.uid ≡ problem.uid) × (c.uid ≡ problem.uid) × (length s.lists ≡ length problem.inputs) × (c.inputs ≡ length problem.inputs) × Holds problem frame s c (CopyCount said is)
-IsNameFault problem frame s c fault = ⊥
+abbrev pub IsNameFault : Problem → Solution → Cert → No → Type 0
+IsNameFault problem s c UidSolution = s.uid ≢ problem.uid
+IsNameFault problem s c UidCertificate = (s.uid ≡ problem.uid) × (c.uid ≢ problem.uid)
+IsNameFault problem s c (InputCount said is) = (s.uid ≡ problem.uid) × (c.uid ≡ problem.uid) × IsCountFault problem s c said is
+IsNameFault problem s c (CopyCount said is) = (s.uid ≡ problem.uid) × (c.uid ≡ problem.uid) × (length s.lists ≡ length problem.inputs) × (c.inputs ≡ length problem.inputs) × IsCopyFault problem c said is
+IsNameFault problem s c fault = ⊥
 
 -- the first fault of the lists
 abbrev pub IsPlanFault : Problem → Solution → VerifyFault → Type 0

@@ -25,9 +25,9 @@ pub struct Yes {
 }
 
 // Whether the solution and the certificate are of this instance.
-fn check_names(inst: &Instance, frame: &Frame, s: &Solution, c: &Cert) -> Result<(), No>
+fn check_names(inst: &Instance, s: &Solution, c: &Cert) -> Result<(), No>
     ensures ok { OnOk result (AreNamed inst.now s.now c.now) }
-    ensures err { IfErr result (IsNameFault inst.now frame.now s.now c.now) }
+    ensures err { IfErr result (IsNameFault inst.now s.now c.now) }
 {
     if !s.uid.same(inst.uid()) {
         return Err(No::UidSolution);
@@ -82,7 +82,7 @@ pub fn verify(alloc: Global, inst: &Instance, s: &Solution, c: &Cert) -> Result<
 {
     let _ = inst.count();
     let frame = Frame::of(alloc, inst)?;
-    match check_names(inst, &frame, s, c) {
+    match check_names(inst, s, c) {
         Ok(()) => {}
         Err(fault) => return Err(VerifyFault::No(fault)),
     }
