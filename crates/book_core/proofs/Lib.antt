@@ -4,7 +4,7 @@ pub mod Crossing
 mod Following
 mod Grown
 mod Kept
-mod Leading
+pub mod Leading
 mod Listed
 mod Offered
 mod Opened

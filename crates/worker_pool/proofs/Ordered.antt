@@ -280,5 +280,5 @@ turn_more limits frame ground outcomes u old new out next g R T = (
   T.of_ground ∙ g,
   subst (λ (G : HeldPlan). AreTurnsInOrder limits frame G new.journal (outcomes ++ out ∷ [])) g
       (turns_more limits frame (ground_of old) outcomes u next old.journal new.journal out (subst (λ (G : HeldPlan). AreTurnsInOrder limits frame G old.journal outcomes) (sym g) R) T.grows T.fits T.made T.in_order
-        (ap (λ (q : HeldPlan). plan_total (now_at q new.journal).plan + saved_by out) (sym T.of_ground) ∙ T.saved)),
+      (ap (λ (q : HeldPlan). plan_total (now_at q new.journal).plan + saved_by out) (sym T.of_ground) ∙ T.saved)),
 )

@@ -9,7 +9,8 @@ ghost use Rattle.worker_pool.specs.Works.{table_at, IsWork};
 ghost use Rattle.worker_pool.specs.Runs.{IsTurnAlone};
 
 use crate::turn::{kind_of, offer_to, outcome_of};
-use crate::{Limits, Outcome, Work, work_on};
+use crate::work::{Work, work_on};
+use crate::{Limits, Outcome};
 use book_core::Book;
 use flip_cnf::Frame;
 use std::alloc::{AllocError, Global};
@@ -39,7 +40,13 @@ fn work_in(
 }
 
 /// One turn on a book: works on it as it is, and offers what that comes to.
-pub fn turn_alone(alloc: Global, book: &mut Book, frame: &Frame, limits: &Limits, u: u64) -> Outcome
+pub(crate) fn turn_alone(
+    alloc: Global,
+    book: &mut Book,
+    frame: &Frame,
+    limits: &Limits,
+    u: u64,
+) -> Outcome
     requires limits { AreLimits limits.now }
     requires frame { IsHeldFrame book.old.problem.points frame.now }
     requires turn { u < turns_of (order_of limits.now) book.old.problem.inputs }

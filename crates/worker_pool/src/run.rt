@@ -6,7 +6,8 @@ ghost use Rattle.book_core.specs.HeldBooks.{ground_of};
 ghost use Rattle.worker_pool.specs.Jobs.{AreLimits, order_of};
 ghost use Rattle.worker_pool.specs.Runs.{AreTurnsInOrder};
 
-use crate::{Limits, Outcome, Outcomes, turn_alone, turn_count};
+use crate::alone::turn_alone;
+use crate::{Limits, Outcome, Outcomes, turn_count};
 use book_core::Book;
 use flip_cnf::Frame;
 use std::alloc::{AllocError, Global};

@@ -11,7 +11,8 @@ ghost use Rattle.worker_pool.specs.Jobs.{AreLimits, MayBeInputs, order_of};
 ghost use Rattle.worker_pool.specs.Works.{IsWork};
 ghost use Rattle.worker_pool.specs.Turns.{IsReplicaAt, IsPublished, IsTurn, taken, kind_of, outcome_for, now_at};
 
-use crate::{Limits, Outcome, Work, work_on};
+use crate::work::{Work, work_on};
+use crate::{Limits, Outcome};
 use book_core::{Accepted, Book, Entry, Refusal, Replica};
 use flip_cnf::Frame;
 use std::alloc::{AllocError, Global};
@@ -19,7 +20,7 @@ use std::sync::Wait;
 use vcell::{Pass, VCell};
 
 // Lets the replica catch up in one holding of the book, and answers whether there was memory for it.
-pub fn catch_up<R: Wait>(
+fn catch_up<R: Wait>(
     rt: &R,
     cell: &VCell<Book>,
     pass: Pass<Book>,
@@ -38,8 +39,8 @@ pub fn catch_up<R: Wait>(
     (held.leave(), caught)
 }
 
-/// Offers an entry in one holding of the book, and answers the bound then.
-pub fn publish<R: Wait>(
+// Offers an entry in one holding of the book, and answers the bound then.
+fn publish<R: Wait>(
     rt: &R,
     cell: &VCell<Book>,
     pass: Pass<Book>,
@@ -72,9 +73,9 @@ pub(crate) fn offer_to(book: &mut Book, base: u64, entry: Entry) -> (Result<Acce
     (answer, limit)
 }
 
-/// What is offered.
+// What is offered.
 #[derive(Clone, Copy, Debug, PartialEq, Eq)]
-pub enum Kind {
+pub(crate) enum Kind {
     Step,
     Bound,
     Assigned,

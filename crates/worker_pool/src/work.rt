@@ -17,9 +17,9 @@ use plan_core::Plan;
 use plan_moves::{Descent, Walk, descend, walk_turn, walker};
 use std::alloc::{AllocError, Global};
 
-/// What a turn offers, or how it ends without an offer.
+// What a turn offers, or how it ends without an offer.
 #[derive(Debug, Drop)]
-pub enum Work {
+pub(crate) enum Work {
     Offers(Entry),
     Ends(Outcome),
 }
@@ -93,8 +93,8 @@ fn do_job(
     }
 }
 
-/// What the turn `u` comes to on a plan with a table of lower bounds, where the journal has `front` moves and swaps. A walk or a descent ends without an offer where it finds no better plan.
-pub fn work_on(
+// What the turn `u` comes to on a plan with a table of lower bounds, where the journal has `front` moves and swaps. A walk or a descent ends without an offer where it finds no better plan.
+pub(crate) fn work_on(
     alloc: Global,
     plan: &Plan,
     weights: &Weights,

@@ -32,7 +32,7 @@ pub loop-u-preserved : goal.loop-u-preserved
 loop-u-preserved c =
     let w : c.loop-u.u < length c.loop-u.outcomes = (let t = c.loop-u-test.true in let l = c.len-u-end.ensures in let n = c.loop-u.invariant.0 in omega (arith, t, l, n)) in
     let more = turn_more c.args.limits.now c.args.frame.now (ground_of c.args.book.now) (take c.loop-u.u c.loop-u.outcomes) c.loop-u.u c.loop-u.book c.turn_alone-outcome.new.book c.turn_alone-outcome.result
-        (let k = length-take-le c.loop-u.u c.loop-u.outcomes (omega (arith, w)) in omega (arith, k, w)) c.loop-u.invariant.1 c.loop-u.invariant.2 c.turn_alone-outcome.ensures in (
+    (let k = length-take-le c.loop-u.u c.loop-u.outcomes (omega (arith, w)) in omega (arith, k, w)) c.loop-u.invariant.1 c.loop-u.invariant.2 c.turn_alone-outcome.ensures in (
       length-set c.loop-u.outcomes c.loop-u.u c.turn_alone-outcome.result ∙ c.loop-u.invariant.0,
       more.0,
       subst (λ (os : List Outcome). AreTurnsInOrder c.args.limits.now c.args.frame.now (ground_of c.args.book.now) c.turn_alone-outcome.new.book.journal os) (sym (take_more_set c.loop-u.outcomes c.loop-u.u c.turn_alone-outcome.result w)) more.1,
