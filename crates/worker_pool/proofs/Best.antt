@@ -1,5 +1,5 @@
 -- What is best under a table of lower bounds has the greatest bound under the rows.
-use Rattle.std.proofs.Common.{◌≡◌, ◌∙◌, ℕ, ◌+◌, ◌/◌, ◌≤◌, List, length, sym, ap, subst, arith}
+use Rattle.std.proofs.Common.{◌≡◌, ℕ, ◌+◌, ◌/◌, ◌≤◌, List, length, sym, subst, arith}
 use Rattle.std.specs.Prelude.{sum}
 use Rattle.assignment_law.specs.Assignments.{IsAssignment, assignment_sum, HasGreatestSum, IsBest}
 use Rattle.bound_law.specs.Copies.{copy_lower}

@@ -1,5 +1,5 @@
 -- How a book is finished.
-use Rattle.std.proofs.Common.{◌≡◌, ◌∙◌, ℕ, ◌+◌, ◌/◌, ◌<◌, ◌≤◌, Bool, true, false, Option, Some, None, Result, Ok, Err, IfOk, IfErr, OnOk, OnErr, List, [], ◌∷◌, ◌++◌, length, map, refl, sym, ap, ap₂, subst, arith, append_assoc}
+use Rattle.std.proofs.Common.{◌≡◌, ◌∙◌, ℕ, ◌+◌, ◌<◌, ◌≤◌, Bool, true, false, Option, Some, None, Result, Ok, Err, IfOk, IfErr, OnOk, OnErr, List, [], ◌∷◌, ◌++◌, length, refl, sym, ap, ap₂, subst, arith, append_assoc}
 use Rattle.std.specs.Prelude.{sum, unwrap_or}
 use Rattle.std.specs.declared.alloc.AllocError.{AllocError}
 use Rattle.std.proofs.lemmas.List.{append-nil, map-append}
@@ -8,12 +8,10 @@ use Rattle.edge_table.specs.declared.edge.Edge.{Edge}
 use Rattle.assignment_law.specs.Assignments.{IsAssignment, HasGreatestSum}
 use Rattle.match_bound.specs.Tables.{weight}
 use Rattle.plan_law.specs.Plans.{Plan, plan_total, followed_all, first_lowering, IsSettled, Settles}
-use Rattle.plan_law.specs.Books as law
-use Rattle.plan_law.specs.Books.{State, after_entry, bound_of, bound}
+use Rattle.plan_law.specs.Books.{State}
 use Rattle.plan_law.proofs.Proved.{settling_ends}
 use Rattle.plan_core.specs.HeldPlans.{HeldPlan}
-use Rattle.plan_moves.specs.Settlings.{IsOnTheWay}
-use Rattle.plan_moves.specs.Ways.{IsFirstStep, IsBegun}
+use Rattle.plan_moves.specs.Ways.{IsFirstStep}
 use Rattle.plan_moves.proofs.Begun.{begins, goes_on, ends}
 use Rattle.plan_moves.proofs.Lowered.{first_made, first_lower}
 use Rattle.book_core.specs.declared.entry.Entry.{Entry}
@@ -21,10 +19,10 @@ use Rattle.book_core.specs.declared.entry.Entry.TheVariants as entry
 use Rattle.book_core.specs.declared.refusal.Accepted.{Accepted}
 use Rattle.book_core.specs.declared.refusal.Refusal.{Refusal}
 use Rattle.book_core.specs.declared.refusal.Refusal.TheVariants as refusal
-use Rattle.book_core.specs.Entries.{Shown, line_of}
+use Rattle.book_core.specs.Entries.{Shown}
 use Rattle.book_core.specs.HeldBooks.{HeldBook, ground_of, now_of, with_line, Refuses}
 use Rattle.worker_pool.specs.Outcomes.{IsBestAt}
-use Rattle.worker_pool.specs.Finishes.{moves_of, IsPack, MovesOn, HasSettlingMoves, IsSettlingOn, IsPackedOn, IsFinished}
+use Rattle.worker_pool.specs.Finishes.{moves_of, MovesOn, HasSettlingMoves, IsSettlingOn, IsPackedOn, IsFinished}
 use Rattle.worker_pool.specs.Works.{table_at}
 use Rattle.worker_pool.proofs.Best.{best_of}
 use Rattle.worker_pool.proofs.OneThread.{now_more}

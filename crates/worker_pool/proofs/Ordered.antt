@@ -1,13 +1,12 @@
 -- Turns one after the other: what one turn more makes of the outcomes so far.
-use Rattle.std.proofs.Common.{◌≡◌, ◌≢◌, ◌∙◌, ◌⊎◌, inl, inr, ℕ, zero, suc, ◌+◌, ◌<◌, ◌≤◌, Option, Some, None, List, [], ◌∷◌, ◌++◌, length, take, refl, sym, ap, ap₂, subst, arith, length-append}
-use Rattle.std.specs.Prelude.{slice_get, sum_by, find, eqb, ◌&&◌, option_map}
+use Rattle.std.proofs.Common.{◌≡◌, ◌≢◌, ◌∙◌, ◌⊎◌, inl, inr, ℕ, zero, suc, ◌+◌, ◌<◌, ◌≤◌, Option, Some, None, List, [], ◌∷◌, ◌++◌, length, take, refl, sym, ap, subst, arith}
+use Rattle.std.specs.Prelude.{slice_get, sum_by, eqb, ◌&&◌, option_map}
 use Rattle.std.specs.Option.{option_or}
 use Rattle.std.proofs.lemmas.Bool.{cases_lt}
 use Rattle.std.proofs.lemmas.Option.{slice_get-map, slice_get_within}
 use Rattle.std.proofs.lemmas.List.{map-append, take-append-le, take_all}
 use Rattle.std.proofs.lemmas.List.Folds.{find-append}
 use Rattle.std.proofs.lemmas.List.Sums.{sum_by-append, sum_by-cons, sum_by-take-le}
-use native.Mathlib.Decide.{ℕ_discrete}
 use mathlib.Core.List.{IsPrefix}
 use Rattle.geo_orient.specs.declared.Point.{Point}
 use Rattle.edge_table.specs.declared.edge.Edge.{Edge}
@@ -27,10 +26,10 @@ use Rattle.worker_pool.specs.declared.limits.Limits.{Limits}
 use Rattle.worker_pool.specs.declared.outcome.Outcome.{Outcome}
 use Rattle.worker_pool.specs.declared.outcome.Outcome.TheVariants as outcome
 use Rattle.worker_pool.specs.Jobs.{order_of}
-use Rattle.worker_pool.specs.Outcomes.{state_at, IsBestAt, job_at, answer_on, IsOwnStep, IsOwnRow, IsOwnPack, Fits, made_by, saved_by}
+use Rattle.worker_pool.specs.Outcomes.{state_at, IsBestAt, job_at, Fits, made_by, saved_by}
 use Rattle.worker_pool.specs.Turns.{now_at}
-use Rattle.worker_pool.specs.Runs.{StandsAt, IsInOrder, entries_below, AreTurns, AreTurnsInOrder, IsTurnAlone}
-use Rattle.worker_pool.proofs.Replicas.{length-lines, prefix_shorter, first_lines}
+use Rattle.worker_pool.specs.Runs.{StandsAt, IsInOrder, entries_below, AreTurnsInOrder, IsTurnAlone}
+use Rattle.worker_pool.proofs.Replicas.{length-lines, first_lines}
 use Rattle.worker_pool.proofs.Turned.{last_there}
 use Rattle.worker_pool.proofs.Later.{there_later, state_later, row_later, no_rise_later, step_later, late_later, pack_later, none_later, stuck_later}
 

@@ -1,5 +1,5 @@
 -- What a turn comes to fits the journal that its pass has seen.
-use Rattle.std.proofs.Common.{◌≡◌, ◌≢◌, ◌∙◌, ℕ, ◌+◌, ◌-◌, ◌/◌, ◌≤◌, Bool, true, false, Some, Result, Ok, Err, IfOk, IfErr, OnOk, OnErr, List, [], ◌∷◌, ◌++◌, length, take, filter, refl, sym, ap, ap₂, subst, arith, length-append}
+use Rattle.std.proofs.Common.{◌≡◌, ◌≢◌, ◌∙◌, ℕ, ◌+◌, ◌-◌, ◌≤◌, Bool, true, false, Some, Result, Ok, Err, IfOk, IfErr, OnOk, OnErr, List, [], ◌∷◌, ◌++◌, length, take, filter, refl, sym, ap, ap₂, subst, arith, length-append}
 use Rattle.std.specs.Prelude.{sum, slice_get}
 use Rattle.std.specs.Bool.{OnTrue}
 use native.Mathlib.Decide.{ℕ_discrete}
@@ -10,10 +10,7 @@ use Rattle.std.proofs.Math.Seq.{take-append_seam}
 use mathlib.Core.List.{IsPrefix}
 use Rattle.geo_orient.specs.declared.Point.{Point}
 use Rattle.edge_table.specs.declared.edge.Edge.{Edge}
-use Rattle.assignment_law.specs.Assignments.{IsAssignment, assignment_sum, HasGreatestSum, IsBest}
 use Rattle.flip_cnf.specs.HeldFrames.{HeldFrame}
-use Rattle.bound_law.specs.Copies.{copy_lower}
-use Rattle.match_bound.specs.Tables.{weight}
 use Rattle.pair_rows.specs.declared.row.Row as row
 use Rattle.plan_law.specs.Plans.{Plan, plan_total}
 use Rattle.plan_law.specs.Books as law
@@ -31,7 +28,7 @@ use Rattle.book_core.specs.declared.refusal.Refusal.TheVariants as refusal
 use Rattle.book_core.specs.Entries.{Shown, line_of, lines_of}
 use Rattle.book_core.specs.HeldBooks.{HeldBook, ground_of, now_of, with_line, Accepts, Refuses, Unfit}
 use Rattle.book_core.specs.HeldReplicas.{HeldReplica}
-use Rattle.book_core.proofs.Tables.{bound_same, length_table}
+use Rattle.book_core.proofs.Tables.{length_table}
 use Rattle.worker_pool.specs.declared.limits.Limits.{Limits}
 use Rattle.worker_pool.specs.declared.outcome.Outcome.{Outcome}
 use Rattle.worker_pool.specs.declared.outcome.Outcome.TheVariants as outcome

@@ -5,7 +5,7 @@ use Rattle.plan_law.specs.Plans.{first_lowering, IsSettled, Settles}
 use Rattle.plan_moves.specs.Settlings.{IsOnTheWay}
 use Rattle.plan_moves.specs.Ways.{IsBegun}
 use Rattle.book_core.specs.declared.entry.Entry.{Entry}
-use Rattle.book_core.specs.declared.entry.Entry.TheVariants.{Move, Swap, Row, Pack}
+use Rattle.book_core.specs.declared.entry.Entry.TheVariants.{Move, Pack}
 use Rattle.book_core.specs.HeldBooks.{HeldBook, ground_of, now_of, with_line}
 use Rattle.worker_pool.specs.Outcomes.{IsBestAt}
 

@@ -1,9 +1,9 @@
 -- What all turns of a run leave: with workers, and on one thread.
-use Rattle.std.specs.Prelude.{◌≡◌, ◌≢◌, ℕ, ◌+◌, ◌-◌, ◌*◌, ◌≤◌, Bool, true, false, Some, List, length, slice_get, take, sum_by, count_by}
+use Rattle.std.specs.Prelude.{◌≡◌, ℕ, ◌+◌, Some, List, length, slice_get, take, sum_by}
 use Rattle.flip_cnf.specs.HeldFrames.{HeldFrame}
 use Rattle.plan_law.specs.Plans.{plan_total}
 use Rattle.plan_law.specs.Books.{bound_of, bound, front}
-use Rattle.plan_law.specs.Solving.{turn_of, turns_of}
+use Rattle.plan_law.specs.Solving.{turn_of}
 use mathlib.Core.List.{IsPrefix}
 use Rattle.plan_core.specs.HeldPlans.{HeldPlan}
 use Rattle.book_core.specs.declared.entry.Entry.{Entry}
@@ -12,7 +12,6 @@ use Rattle.book_core.specs.HeldBooks.{HeldBook, ground_of, now_of}
 use Rattle.worker_pool.specs.declared.limits.Limits.{Limits}
 use Rattle.worker_pool.specs.declared.outcome.Outcome.{Outcome}
 use Rattle.worker_pool.specs.declared.outcome.Outcome.TheVariants.{Published, NotBetter, Stuck, Stale, Kept, Taken, Packed, NoRise, NoMemory}
-use Rattle.worker_pool.specs.Jobs.{order_of}
 use Rattle.worker_pool.specs.Outcomes.{state_at, IsBestAt, Fits, made_by, saved_by}
 use Rattle.worker_pool.specs.Turns.{now_at}
 

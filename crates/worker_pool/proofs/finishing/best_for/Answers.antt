@@ -1,4 +1,4 @@
-use Rattle.std.proofs.Common.{◌≡◌, ◌∙◌, ℕ, List, length, sym, ap}
+use Rattle.std.proofs.Common.{◌∙◌, ℕ, List, length, sym, ap}
 use Rattle.std.specs.Prelude.{sum}
 use Rattle.book_core.specs.HeldBooks.{now_of}
 use Rattle.book_core.proofs.Tables.{length_table}

@@ -1,4 +1,3 @@
-use Rattle.std.proofs.Common.{◌≡◌, sym, subst}
 use Rattle.plan_moves.proofs.Begun as begun
 use Rattle.worker_pool.proofs.Finished.{settling_left, on_ok, on_err}
 use Rattle.worker_pool.proofs.finishing.finish.Goals as goal

@@ -1,4 +1,4 @@
-use Rattle.std.proofs.Common.{◌≡◌, ◌∙◌, ap, Ok, Err}
+use Rattle.std.proofs.Common.{◌∙◌, ap, Err}
 use Rattle.worker_pool.proofs.Finished.{pack_taken, pack_refused}
 use Rattle.worker_pool.proofs.finishing.pack_book.Goals as goal
 

@@ -1,5 +1,4 @@
-use Rattle.std.proofs.Common.{◌≡◌, ◌∙◌, sym, ap, subst}
-use Rattle.std.specs.Prelude.{OnErr}
+use Rattle.std.proofs.Common.{sym, subst}
 use Rattle.worker_pool.specs.Finishes.{HasSettlingMoves}
 use Rattle.worker_pool.proofs.Finished.{nothing_made, moved_on, moved_lower, moved_out}
 use Rattle.worker_pool.proofs.finishing.settle_book.Goals as goal

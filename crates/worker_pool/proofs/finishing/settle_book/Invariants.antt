@@ -1,4 +1,3 @@
-use Rattle.std.proofs.Common.{◌≡◌}
 use Rattle.plan_law.specs.Plans.{plan_total}
 use Rattle.book_core.specs.HeldBooks.{now_of}
 use Rattle.worker_pool.specs.Finishes.{HasSettlingMoves}

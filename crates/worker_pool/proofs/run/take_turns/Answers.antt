@@ -1,4 +1,4 @@
-use Rattle.std.proofs.Common.{◌≡◌, ◌∙◌, ◌<◌, ℕ, List, [], ◌∷◌, ◌++◌, length, take, refl, sym, ap, subst, arith}
+use Rattle.std.proofs.Common.{◌∙◌, ◌<◌, List, [], length, take, refl, sym, subst, arith}
 use Rattle.std.proofs.lemmas.List.{take_more_set, take_all, length-set, length-take-le}
 use Rattle.flip_cnf.specs.HeldFrames.{IsHeldFrame}
 use Rattle.plan_law.specs.Solving.{turns_of}
