@@ -57,7 +57,9 @@ fn raw(alloc: Global, points: PointList, input: PairList) -> Result<RawInstance,
     RawInstance::unweighted(alloc, Uid::of(alloc, "polygon")?, points, inputs)
 }
 
-fn track_of(rt: &impl Abort, alloc: Global, raw: RawInstance) -> Result<Track, Fail> {
+fn track_of(rt: &impl Abort, alloc: Global, raw: RawInstance) -> Result<Track, Fail>
+    requires { length raw.weights ≡ length raw.inputs }
+{
     let instance = Instance::check(alloc, raw)?;
     assert_eq!(rt; instance.inputs(), 1);
     Ok(Track::at(alloc, instance.input(0))?)

@@ -1,4 +1,4 @@
--- What all turns of a run leave: with workers, and on one thread.
+-- What all turns of a run leave, one after the other on one thread.
 use Rattle.std.specs.Prelude.{◌≡◌, ℕ, ◌+◌, Some, List, length, slice_get, take, sum_by}
 use Rattle.flip_cnf.specs.HeldFrames.{HeldFrame}
 use Rattle.plan_law.specs.Plans.{plan_total}
