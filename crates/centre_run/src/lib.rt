@@ -10,6 +10,7 @@ mod scoring;
 mod solution_lines;
 mod solving;
 mod status;
+mod threads;
 
 pub use ending::end_number;
 pub use run::run_plain;

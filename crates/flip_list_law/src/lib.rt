@@ -1,6 +1,8 @@
 //! Flips, and the laws of flip lists, of their grouping into rounds, and of following one more flip.
 #![tactic(auto)]
 
+mod threads;
+
 ghost use Rattle.flip_list_law.specs.Laws.{FlipsLead, FlipListsKeepTriangulations, EdgesDetermineFlips, EdgesFlipInTurn, NumbersCountMakers, RoundsGroupByNumber, GroupingReplays, LastNumbersCountMakers, FlipsAppend, UndoneByTheMaker, FlipsCancel, RemovalKeepsMakers, FollowingLeads, LastImages, LastImagesLeadBack, RoundsFlipInTurn};
 
 use edge_table::Edge;

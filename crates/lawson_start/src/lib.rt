@@ -7,6 +7,7 @@ mod fault;
 mod opening;
 mod queue;
 mod run;
+mod threads;
 
 pub use centre::Start;
 pub use fault::StartFault;

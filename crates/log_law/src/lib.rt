@@ -1,6 +1,8 @@
 //! Formulas, hinted refutation logs and the trails of a search: what they are, and their laws.
 #![tactic(auto)]
 
+mod threads;
+
 /// A literal: the number of a variable, counted from 1, and whether it is to be true.
 #[derive(Clone, Copy, PartialEq, Eq, Debug)]
 pub struct Lit {

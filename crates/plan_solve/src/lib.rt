@@ -5,6 +5,7 @@ ghost use Rattle.plan_solve.specs.Laws.{PlansAreDetermined};
 
 mod order;
 mod solving;
+mod threads;
 
 pub use order::Order;
 pub use solving::solve;
