@@ -24,6 +24,3 @@ pub use world::{Event, Reply, World};
 pub fn laws()
     ensures events_keep_worlds { EventsKeepWorlds }
 {}
-
-#[cfg(test)]
-mod tests;

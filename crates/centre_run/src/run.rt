@@ -131,12 +131,3 @@ pub fn run_plain<S: Store, O: Sink>(
     }
     reply.status
 }
-
-#[cfg(test)]
-mod size_tests;
-#[cfg(test)]
-mod solve_tests;
-#[cfg(test)]
-mod tests;
-#[cfg(test)]
-mod weight_tests;

@@ -12,6 +12,3 @@ mod threads;
 pub use asked::{Asked, WordsFault};
 pub use name::Name;
 pub use read::{laws, read_words};
-
-#[cfg(test)]
-mod tests;

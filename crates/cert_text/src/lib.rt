@@ -20,6 +20,3 @@ pub use host_io::CertKind;
 pub use journal::{JournalLine, JournalLines};
 pub use read::{laws, read_cert};
 pub use write::write_cert;
-
-#[cfg(test)]
-mod tests;

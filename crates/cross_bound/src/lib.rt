@@ -11,6 +11,3 @@ mod walk;
 pub use best::Side;
 pub use bound::{CrossBound, cross_bound};
 pub use count::crossings;
-
-#[cfg(test)]
-mod tests;

@@ -17,6 +17,3 @@ mod threads;
 
 pub use fault::BuildFault;
 pub use frame::Frame;
-
-#[cfg(test)]
-mod tests;

@@ -8,6 +8,3 @@ mod threads;
 mod turn;
 
 pub use mesh::{Mesh, Quad, Wings};
-
-#[cfg(test)]
-mod tests;

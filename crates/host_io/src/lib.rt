@@ -22,8 +22,3 @@ pub use mem_store::MemStore;
 pub use sink::{Sink, put_all};
 pub use std_sink::StdSink;
 pub use store::Store;
-
-#[cfg(test)]
-mod file_tests;
-#[cfg(test)]
-mod tests;

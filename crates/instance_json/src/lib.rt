@@ -7,6 +7,3 @@ mod threads;
 
 pub use fault::{Form, InstanceFault, Member};
 pub use read::{laws, read_instance};
-
-#[cfg(test)]
-mod tests;

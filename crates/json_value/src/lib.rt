@@ -7,6 +7,3 @@ mod threads;
 
 pub use pairs::{are_pair_lists, are_pairs, pair_lists_in, pairs_in};
 pub use text::{NumberFault, ParseFault, numbers_in, parse};
-
-#[cfg(test)]
-mod tests;

@@ -12,6 +12,3 @@ mod threads;
 pub use centre::Start;
 pub use fault::StartFault;
 pub use opening::start;
-
-#[cfg(test)]
-mod tests;

@@ -14,6 +14,3 @@ pub use log_line::log_line_of;
 pub use reader::Reader;
 pub use words::{numbers_after, strip_name};
 pub use writing::{put_line, put_log_line};
-
-#[cfg(test)]
-mod tests;

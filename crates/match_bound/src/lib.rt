@@ -11,6 +11,3 @@ mod threads;
 pub use best::{Assign, best_assignment, perm_bound};
 pub use lists::{Ints, Perm};
 pub use table::Weights;
-
-#[cfg(test)]
-mod tests;

@@ -14,6 +14,3 @@ pub use row::{End, Evidence, Row};
 pub fn laws()
     ensures justified_rows_are_true { JustifiedRowsAreTrue }
 {}
-
-#[cfg(test)]
-mod tests;

@@ -22,6 +22,3 @@ pub fn laws()
     ensures swaps_have_no_fault { SwapsHaveNoFault }
     ensures swap_faults_are_unique { SwapFaultsAreUnique }
 {}
-
-#[cfg(test)]
-mod tests;

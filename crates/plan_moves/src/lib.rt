@@ -14,10 +14,3 @@ pub use improving::improve;
 pub use lowering::first_move;
 pub use settling::settle;
 pub use walking::{Walk, walk_turn, walker};
-
-#[cfg(test)]
-mod improver_tests;
-#[cfg(test)]
-mod swap_tests;
-#[cfg(test)]
-mod tests;

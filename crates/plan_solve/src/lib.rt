@@ -14,6 +14,3 @@ pub use solving::solve;
 pub fn laws()
     ensures plans_are_determined { PlansAreDetermined }
 {}
-
-#[cfg(test)]
-mod tests;

@@ -22,6 +22,3 @@ pub fn laws()
     ensures plans_have_no_fault { PlansHaveNoFault }
     ensures score_faults_are_unique { ScoreFaultsAreUnique }
 {}
-
-#[cfg(test)]
-mod tests;

@@ -13,6 +13,3 @@ mod track;
 
 pub use list::TrackList;
 pub use track::Track;
-
-#[cfg(test)]
-mod tests;

@@ -12,6 +12,3 @@ pub use fault::{SolForm, SolMember, SolutionFault};
 pub use read::{laws, read_solution};
 pub use solution::Solution;
 pub use write::solution_text;
-
-#[cfg(test)]
-mod tests;

@@ -22,6 +22,3 @@ pub use instance::Instance;
 pub use raw::{PairList, PointList, RawInputs, RawInstance, RawPair, WeightList};
 pub use triang::Triang;
 pub use uid::Uid;
-
-#[cfg(test)]
-mod tests;

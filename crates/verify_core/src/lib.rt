@@ -17,9 +17,6 @@ mod verifying;
 pub use fault::{No, RowWhy, VerifyFault};
 pub use verifying::{Yes, verify};
 
-#[cfg(test)]
-mod tests;
-
 /// The law of faults: what is shown has none. So the verifier says yes exactly where it can.
 pub fn laws()
     ensures { ShownHaveNoFault }

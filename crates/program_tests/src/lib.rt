@@ -1,0 +1,13 @@
+//! Tests of the words of the command line, and of whole runs.
+#![tactic(auto)]
+
+#[cfg(test)]
+mod checking;
+#[cfg(test)]
+mod sizes;
+#[cfg(test)]
+mod solving;
+#[cfg(test)]
+mod weights;
+#[cfg(test)]
+mod words;

@@ -1,0 +1,119 @@
+// Words as they are read.
+use centre_words::*;
+use std::alloc::Global;
+use std::test::Fail;
+
+// What the words of a line, with one space between two, ask for.
+fn read(alloc: Global, line: &str) -> Result<Option<Asked>, Fail> {
+    let mut words = Vec::new(alloc);
+    for word in line.split(' ') {
+        words.push(String::from_str(alloc, word)?)?;
+    }
+    match read_words(alloc, &words) {
+        Ok(asked) => Ok(Some(asked)),
+        Err(WordsFault::Words) => Ok(None),
+        Err(WordsFault::OutOfMemory) => Err(Fail::from("memory")),
+    }
+}
+
+// `solve` of `q` into `s`.
+fn solve(alloc: Global, turns: u32, seed: u64, flips: Option<u64>) -> Result<Option<Asked>, Fail> {
+    Ok(Some(Asked::Solve {
+        instance: Name::of(alloc, "q")?,
+        solution: Name::of(alloc, "s")?,
+        turns,
+        seed,
+        flips,
+    }))
+}
+
+#[test]
+fn solve_has_options_in_any_place(rt: HostRuntime) -> Result<(), Fail> {
+    let alloc = rt.alloc();
+    let rows = [
+        ("solve q s", 64, 1, None),
+        ("solve q s --turns 0", 0, 1, None),
+        ("solve --turns 1000000 q s", 1_000_000, 1, None),
+        ("solve q --seed 0 s", 64, 0, None),
+        ("solve q s --seed 18446744073709551615", 64, u64::MAX, None),
+        ("solve q s --flips 0", 64, 1, Some(0)),
+        ("solve q s --flips 1000000000", 64, 1, Some(1_000_000_000)),
+        ("solve --flips 7 q --seed 5 s --turns 3", 3, 5, Some(7)),
+        ("solve --seed 5 --turns 3 q s --flips 7", 3, 5, Some(7)),
+        ("solve q s --turns 00000000000000000003", 3, 1, None),
+    ];
+    for (line, turns, seed, flips) in rows {
+        assert_eq!(rt;
+            read(alloc, line)?,
+            solve(alloc, turns, seed, flips)?,
+            "{line}"
+        );
+    }
+    Ok(())
+}
+
+#[test]
+fn other_words_are_refused(rt: HostRuntime) -> Result<(), Fail> {
+    let rows = [
+        "",
+        "solve",
+        "verify q",
+        "check",
+        "check q s",
+        "check -q",
+        "check --help",
+        "check q --turns 1",
+        "score q",
+        "score q s t",
+        "solve q",
+        "solve q s t",
+        "solve q q",
+        "solve q -s",
+        "solve q ",
+        "solve q s --",
+        "solve -- q s",
+        "solve q s -h",
+        "solve q s --help",
+        "solve q s --turns",
+        "solve q s --turns ",
+        "solve q s --turns -1",
+        "solve q s --turns +1",
+        "solve q s --turns x",
+        "solve q s --turns=1",
+        "solve q s --turns 1 --turns 1",
+        "solve q s --turns --turns",
+        "solve q s --turns 1000001",
+        "solve q s --seed 18446744073709551616",
+        "solve q s --flips 1000000001",
+        "solve q s --turns 000000000000000000003",
+        "solve q s --workers 1",
+        "--turns 1 solve q s",
+        "help",
+        "--help",
+    ];
+    for line in rows {
+        assert_eq!(rt; read(rt.alloc(), line)?, None, "{line}");
+    }
+    Ok(())
+}
+
+#[test]
+fn names_stand_in_order(rt: HostRuntime) -> Result<(), Fail> {
+    let alloc = rt.alloc();
+    let check = Asked::Check {
+        instance: Name::of(alloc, "q.json")?,
+    };
+    assert_eq!(rt; read(alloc, "check q.json")?, Some(check));
+    let score = Asked::Score {
+        instance: Name::of(alloc, "q")?,
+        solution: Name::of(alloc, "s")?,
+    };
+    assert_eq!(rt; read(alloc, "score q s")?, Some(score));
+    let same = Asked::Score {
+        instance: Name::of(alloc, "q")?,
+        solution: Name::of(alloc, "q")?,
+    };
+    assert_eq!(rt; read(alloc, "score q q")?, Some(same));
+    assert_eq!(rt; Name::of(alloc, "é")?.text(), "é");
+    Ok(())
+}
