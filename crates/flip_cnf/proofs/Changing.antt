@@ -7,10 +7,11 @@ use Rattle.log_law.specs.declared.Lit.{Lit}
 use Rattle.log_law.specs.Clauses.{Clause}
 use Rattle.formula_law.specs.Frames.{Pair, Frame, IsFrame}
 use Rattle.formula_law.specs.Formula.{literal, there, made}
-use Rattle.flip_cnf.specs.Lists.{Link, edge_at, linked}
-use Rattle.flip_cnf.specs.Building.{no_pair, pair_at, leaving, coming}
-use Rattle.flip_cnf.proofs.Kept.{kept, skipped}
-use Rattle.flip_cnf.proofs.Variables.{same_segment, other_segment}
+use Rattle.formula_parts.specs.Lists.{Link, edge_at, linked}
+use Rattle.formula_parts.specs.Building.{no_pair, pair_at}
+use Rattle.flip_cnf.specs.Building.{leaving, coming}
+use Rattle.formula_parts.proofs.Kept.{kept, skipped}
+use Rattle.formula_parts.proofs.Places.{same_segment, other_segment}
 
 pub two : (l0 l1 l2 : Clause) (a b : Lit) → l0 ≡ [] → l1 ≡ l0 ++ a ∷ [] → l2 ≡ l1 ++ b ∷ [] → l2 ≡ a ∷ b ∷ []
 two l0 l1 l2 a b e0 e1 e2 = e2 ∙ ap (λ l. l ++ b ∷ []) (e1 ∙ ap (λ l. l ++ a ∷ []) e0)

@@ -1,12 +1,5 @@
-pub mod Appending
 pub mod Asked
 pub mod Changing
-pub mod Entries
-pub mod Found
-pub mod Kept
 pub mod Meaning
-pub mod Quads
-pub mod Sides
 pub mod Variables
-pub mod Whole
 pub mod Writing

@@ -13,55 +13,18 @@ use Rattle.formula_law.specs.Frames.{Pair, IsPairBefore, Frame, IsFrame}
 use Rattle.formula_law.specs.Formula.{is_pair, there, made, variable_count}
 use Rattle.formula_law.proofs.EdgeTests.{edge_place, pair_place, edge_test, edge_equal, member_true, not_member}
 use Rattle.formula_law.proofs.Clauses.{true_or_false}
-use Rattle.flip_cnf.specs.Lists.{no_edge, edge_at}
-use Rattle.flip_cnf.specs.Building.{no_pair, pair_at}
-
--- equal elements of a list in strict order stand at one place
-pub one_place : {X : Type 0} (R : X → X → Type 0) → ((x : X) → ¬ R x x) → (xs : List X) → AllPairs R xs → (i j : ℕ) (d : X) → i < length xs → j < length xs → get_or xs i d ≡ get_or xs j d → i ≡ j
-one_place R strict xs up i j d hi hj e = by_tests (dec_lt i j) (dec_lt j i)
-  where
-    by_tests : Dec (i < j) → Dec (j < i) → i ≡ j
-    by_tests (yes l) _ = absurd (strict (get_or xs j d) (subst (λ x. R x (get_or xs j d)) e (up i j d l hj)))
-    by_tests (no n) (yes l) = absurd (strict (get_or xs i d) (subst (λ x. R x (get_or xs i d)) (sym e) (up j i d l hi)))
-    by_tests (no n) (no m) = omega arith
-
-pub pair_strict : (g : Pair) → ¬ IsPairBefore g g
-pair_strict g (inl h) = not_before_itself g.0 h
-pair_strict g (inr h) = not_before_itself g.1 h.1
-
-pub member_is : (es : List Edge) (e : Edge) (b : Bool) → IsTrue b ↔ Contains es e → b ≡ is_member es e
-member_is es e true h = sym (member_true es e (h.0 refl))
-member_is es e false h = sym (not_member es e (λ k. true≢false (sym (h.1 k))))
+use Rattle.formula_parts.specs.Lists.{no_edge, edge_at}
+use Rattle.formula_parts.specs.Building.{no_pair, pair_at}
+use Rattle.formula_parts.proofs.Places.{segment_number, flip_number}
 
 module _ (points : List Point) (F : Frame) (I : IsFrame points F) where
-  pub segment_number : (n : ℕ) → n < length F.segments → position_or_len (is_edge (edge_at F.segments n)) F.segments ≡ n
-  segment_number n h =
-      let p = edge_place F.segments (edge_at F.segments n) no_edge (Contains-get_or F.segments n no_edge h) in
-      one_place IsBefore not_before_itself F.segments I.segments_ascend (position_or_len (is_edge (edge_at F.segments n)) F.segments) n no_edge p.0 h p.1
-
-  pub flip_number : (n : ℕ) → n < length F.flips → position_or_len (is_pair (pair_at F.flips n)) F.flips ≡ n
-  flip_number n h =
-      let p = pair_place F.flips (pair_at F.flips n) no_pair (Contains-get_or F.flips n no_pair h) in
-      one_place IsPairBefore pair_strict F.flips I.flips_ascend (position_or_len (is_pair (pair_at F.flips n)) F.flips) n no_pair p.0 h p.1
-
   pub there_is : (t n : ℕ) → n < length F.segments → there F t (edge_at F.segments n) ≡ t * length F.segments + n + 1
-  there_is t n h = ap (λ p. t * length F.segments + p + 1) (segment_number n h)
+  there_is t n h = ap (λ p. t * length F.segments + p + 1) (segment_number points F I n h)
 
   pub made_is : (k t n : ℕ) → n < length F.flips → made F k t (pair_at F.flips n) ≡ (k + 1) * length F.segments + t * length F.flips + n + 1
-  made_is k t n h = ap (λ p. (k + 1) * length F.segments + t * length F.flips + p + 1) (flip_number n h)
+  made_is k t n h = ap (λ p. (k + 1) * length F.segments + t * length F.flips + p + 1) (flip_number points F I n h)
 
   pub made_few : (k t n most : ℕ) → t < k → n < length F.flips → variable_count F k ≤ most → made F k t (pair_at F.flips n) ≤ most
   made_few k t n most l h few =
       let rows : (t + 1) * length F.flips ≤ k * length F.flips = mul-le-mul_right (length F.flips) (omega arith) in
       omega (arith, rows, made_is k t n h)
-
-  -- the test of equal segments, by their numbers
-  pub same_segment : (i j : ℕ) → j ≡ i → is_edge (edge_at F.segments i) (edge_at F.segments j) ≡ true
-  same_segment i j e = edge_test (edge_at F.segments i) (edge_at F.segments j) (ap (edge_at F.segments) (sym e))
-
-  pub other_segment : (i j : ℕ) → i < length F.segments → j < length F.segments → j ≢ i → is_edge (edge_at F.segments i) (edge_at F.segments j) ≡ false
-  other_segment i j hi hj n = by_test (true_or_false (is_edge (edge_at F.segments i) (edge_at F.segments j)))
-    where
-      by_test : (is_edge (edge_at F.segments i) (edge_at F.segments j) ≡ true) ⊎ (is_edge (edge_at F.segments i) (edge_at F.segments j) ≡ false) → is_edge (edge_at F.segments i) (edge_at F.segments j) ≡ false
-      by_test (inl h) = absurd (n (sym (one_place IsBefore not_before_itself F.segments I.segments_ascend i j no_edge hi hj (edge_equal (edge_at F.segments i) (edge_at F.segments j) h))))
-      by_test (inr h) = h

@@ -8,20 +8,14 @@ use Rattle.formula_law.specs.Formula.{layer_clauses, crossing_clauses, flip_clau
 use Rattle.formula_law.specs.RefutationLaws.{whole}
 use Rattle.formula_law.proofs.Fits.{fits}
 use Rattle.formula_law.proofs.FormulaCounts.{formula_length}
-use Rattle.flip_cnf.specs.Building.{IsFrameOfSome, adding, Takes}
-use Rattle.flip_cnf.proofs.Appending.{takes_first, takes_rest, adding_twice}
+use Rattle.formula_parts.specs.Building.{IsFrameOfSome, adding, Takes}
+use Rattle.formula_parts.proofs.Appending.{takes_first, next_takes, next_added}
 
 pub fewer : (F : Frame) (k most : ℕ) → clause_count F k ≤ most → variable_count F k ≤ most
 fewer F k most h = counted (length F.segments) (length F.crossings) (length F.flips) h
   where
     counted : (s c w : ℕ) → 2 * s + (k + 1) * c + k * (12 * w + 2 * s) ≤ most → (k + 1) * s + k * w ≤ most
     counted s c w h = omega (arith, h)
-
-pub next_takes : (made now : Formula) (cs ds : List Clause) → Takes made (cs ++ ds) → now ≡ adding made cs → Takes now ds
-next_takes made now cs ds T e = subst (λ m. Takes m ds) (sym e) (takes_rest made cs ds T)
-
-pub next_added : (made now new : Formula) (cs ds : List Clause) → now ≡ adding made cs → new ≡ adding now ds → new ≡ adding made (cs ++ ds)
-next_added made now new cs ds e f = f ∙ ap (λ m. adding m ds) e ∙ adding_twice made cs ds
 
 module _ (F : Frame) (A B : List Edge) (k : ℕ) where
   abbrev pub start : Formula

@@ -8,37 +8,11 @@ use Rattle.log_law.specs.declared.Lit.{Lit}
 use Rattle.log_law.specs.Clauses.{Clause, Formula, IsClause}
 use Rattle.formula_law.specs.Frames.{Pair, Frame, IsFrame}
 use Rattle.formula_law.specs.Formula.{literal, there, made, demands, leave_clause, come_clause}
-use Rattle.flip_cnf.specs.Lists.{no_edge}
-
--- the frame is that of some points
-pub record IsFrameOfSome (F : Frame) : Type 0 where
-  pub points : List Point
-  pub placed : ArePlaced points
-  pub frame : IsFrame points F
-
--- the formula with more clauses at its end
-abbrev pub adding : Formula → List Clause → Formula
-adding made clauses = record { variables = made.variables; clauses = made.clauses ++ clauses }
-
--- these clauses may be added
-pub record Takes (made : Formula) (clauses : List Clause) : Type 0 where
-  pub fit : All (IsClause made.variables) clauses
-  pub room : length made.clauses + length clauses ≤ 2_000_000_000
-
--- what stands for a pair that a list doesn't have
-abbrev pub no_pair : Pair
-no_pair = (no_edge, no_edge)
-
-abbrev pub pair_at : List Pair → ℕ → Pair
-pair_at pairs n = slice_index_or pairs n no_pair
+use Rattle.formula_parts.specs.Lists.{no_edge}
 
 -- s is there before round t and after it
 abbrev pub stays : Frame → ℕ → Edge → List Lit
 stays F t s = literal (there F t s) true ∷ literal (there F (t + 1) s) true ∷ []
-
--- the edges from each end of e to each end of f
-abbrev pub four : Edge → Edge → List Edge
-four e f = edge e.0 f.0 ∷ edge e.0 f.1 ∷ edge e.1 f.0 ∷ edge e.1 f.1 ∷ []
 
 -- what flip g asks where it is made in round t
 abbrev pub asked : Frame → ℕ → ℕ → Pair → List Clause
@@ -51,10 +25,6 @@ told_by F t edges e = literal (there F t e) (is_member edges e) ∷ []
 -- after t rounds not both segments of g are there
 abbrev pub not_both : Frame → ℕ → Pair → Clause
 not_both F t g = literal (there F t g.0) false ∷ literal (there F t g.1) false ∷ []
-
--- a flip isn't made, or what it demands holds
-abbrev pub asks : Lit → Lit → Clause
-asks unmade demand = unmade ∷ demand ∷ []
 
 -- e isn't there before round t, or is there after it, or one of these flips from e is made
 abbrev pub leaving : Frame → ℕ → ℕ → Edge → List Pair → Clause

@@ -7,7 +7,8 @@ use Rattle.tri_theory.specs.Rounds.{IsSchedule}
 use Rattle.log_law.specs.Clauses.{Clause, Formula, IsModel}
 use Rattle.formula_law.specs.Frames.{Frame, IsFrame}
 use Rattle.formula_law.specs.Formula.{formula, clause_count, rounds_of}
-use Rattle.formula_law.specs.RefutationLaws.{whole}
+use Rattle.formula_law.specs.RefutationLaws.{whole, pruned}
+use Rattle.formula_law.specs.PrunedFormula.{live_between, pruned_formula, live_rounds_of}
 use Rattle.flip_cnf.specs.declared.fault.BuildFault.{BuildFault}
 use Rattle.flip_cnf.specs.declared.fault.BuildFault.TheVariants.{ManyPoints, TooLarge, OutOfMemory}
 
@@ -53,6 +54,41 @@ Satisfies (Many n) A B k truth = ⊥
 abbrev pub AreTold : HeldFrame → (ℕ → Bool) → ℕ → List (List Edge) → Type 0
 AreTold (Listed F) truth k rounds = rounds ≡ rounds_of F truth k
 AreTold (Many n) truth k rounds = ⊥
+
+-- ---- the pruned formula
+-- of k rounds from A to B: its variables are those of the places that a schedule may use
+module _ (points : List Point) (A B : List Edge) (k : ℕ) where
+  abbrev pub pruned_clauses : Frame → List Clause
+  pruned_clauses F = pruned_formula F (live_between points A B k) A B k
+
+  -- the number of its clauses, of few points
+  abbrev pub pruned_size_of : HeldFrame → Option ℕ
+  pruned_size_of (Listed F) = Some (length (pruned_clauses F))
+  pruned_size_of (Many n) = None
+
+  -- the formula, of few points and with at most 400,000 clauses
+  abbrev pub IsPrunedBuilt : HeldFrame → Formula → Type 0
+  IsPrunedBuilt (Listed F) built = (length (pruned_clauses F) ≤ 400_000) × (built ≡ pruned F (live_between points A B k) A B k)
+  IsPrunedBuilt (Many n) built = ⊥
+
+  -- why there is none: more than 64 points, with their number; else more than 400,000 clauses, with their number; or there is no memory
+  abbrev pub IsPrunedFault : HeldFrame → BuildFault → Type 0
+  IsPrunedFault (Listed F) (ManyPoints n) = ⊥
+  IsPrunedFault (Listed F) (TooLarge n) = (400_000 < n) × (n ≡ length (pruned_clauses F))
+  IsPrunedFault (Listed F) OutOfMemory = ⊤
+  IsPrunedFault (Many m) (ManyPoints n) = (64 < n) × (n ≡ length points)
+  IsPrunedFault (Many m) (TooLarge n) = ⊥
+  IsPrunedFault (Many m) OutOfMemory = ⊤
+
+  -- the assignment is a model of it, of few points
+  abbrev pub SatisfiesPruned : HeldFrame → (ℕ → Bool) → Type 0
+  SatisfiesPruned (Listed F) truth = IsModel truth (pruned_clauses F)
+  SatisfiesPruned (Many n) truth = ⊥
+
+  -- the rounds that the assignment tells, of few points
+  abbrev pub AreToldByPruned : HeldFrame → (ℕ → Bool) → List (List Edge) → Type 0
+  AreToldByPruned (Listed F) truth rounds = rounds ≡ live_rounds_of F (live_between points A B k) truth k
+  AreToldByPruned (Many n) truth rounds = ⊥
 
 -- k rounds, each in edge order, that lead from A to B
 pub record AreRounds (points : List Point) (A B : List Edge) (k : ℕ) (rounds : List (List Edge)) : Type 0 where

@@ -3,20 +3,19 @@ ghost use Rattle.std.specs.Prelude.{◌≡◌, ◌+◌, ◌≤◌, IfOk, OnOk};
 ghost use Rattle.std.specs.List.{flat_map, range_with_len};
 ghost use Rattle.formula_law.specs.Formula.{crossing_clauses, flip_clauses, change_clauses, clause_count, variable_count, there, made};
 ghost use Rattle.formula_law.specs.RefutationLaws.{whole};
-ghost use Rattle.flip_cnf.specs.Building.{IsFrameOfSome, Takes, adding};
+ghost use Rattle.formula_parts.specs.Building.{IsFrameOfSome, Takes, adding};
 
 mod changes;
-mod clauses;
 mod crossings;
 mod flips;
 mod layers;
 mod sides;
 
-use crate::lists::Lists;
 use crate::size::variables;
 use changes::add_changes;
 use crossings::add_crossings;
 use flips::add_flips;
+use formula_parts::Lists;
 use layers::add_layer;
 use rup_check::Cnf;
 use std::alloc::{AllocError, Global};

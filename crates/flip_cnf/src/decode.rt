@@ -2,11 +2,11 @@
 ghost use Rattle.std.specs.Prelude.{◌≡◌, ◌<◌, ◌≤◌, IsTrue, ◌↔◌, true, length, IfOk};
 ghost use Rattle.log_law.specs.Clauses.{listed};
 ghost use Rattle.formula_law.specs.Formula.{made, round_of, rounds_of};
-ghost use Rattle.flip_cnf.specs.Building.{IsFrameOfSome, pair_at};
+ghost use Rattle.formula_parts.specs.Building.{IsFrameOfSome, pair_at};
 
-use crate::lists::Lists;
 use crate::numbers::place;
 use edge_table::{EdgeSeq, Rounds};
+use formula_parts::Lists;
 use rup_check::Truth;
 use std::alloc::{AllocError, Global};
 

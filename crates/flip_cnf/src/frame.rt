@@ -3,14 +3,15 @@ ghost use Rattle.std.specs.Prelude.{◌≡◌, ◌<◌, ◌≤◌, ◌↔◌, le
 ghost use Rattle.tri_theory.specs.Rounds.{Within};
 ghost use Rattle.bound_law.specs.Bounds.{input_at};
 ghost use Rattle.log_law.specs.Clauses.{listed};
-ghost use Rattle.flip_cnf.specs.HeldFrames.{IsHeldFrame, size_of, IsBuilt, HasModel, IsBuildFault, Satisfies, AreTold, AreRounds};
+ghost use Rattle.flip_cnf.specs.HeldFrames.{IsHeldFrame, size_of, IsBuilt, HasModel, IsBuildFault, Satisfies, AreTold, AreRounds, pruned_size_of, IsPrunedBuilt, IsPrunedFault, SatisfiesPruned, AreToldByPruned};
 
 use crate::BuildFault;
 use crate::build::write;
 use crate::decode::read;
-use crate::lists::Lists;
 use crate::size::clauses;
 use edge_table::Rounds;
+use formula_parts::Lists;
+use pruned_cnf::{Query, build, decode, size};
 use rup_check::{Cnf, Truth};
 use std::alloc::{AllocError, Global};
 use std::marker::Model;
@@ -120,6 +121,76 @@ impl Frame {
         let _ = inst.count();
         match &self.kind {
             Kind::Listed(lists) => read(self.alloc, lists, k, truth),
+            Kind::Many(_) => unreachable!(),
+        }
+    }
+
+    /// The number of clauses of the pruned formula of `k` rounds from input `i` to input `j`, or `None` where there are more than 64 points. Nothing is built, and few layers are counted, however many rounds there are.
+    pub fn size2(&self, inst: &Instance, i: u32, j: u32, k: u32) -> Result<Option<u64>, AllocError>
+        requires frame { IsHeldFrame inst.now.points self.now }
+        requires from { i < length inst.now.inputs }
+        requires to { j < length inst.now.inputs }
+        requires rounds { k ≤ 400_000 }
+        ensures { IfOk result (λ size. size ≡ pruned_size_of inst.now.points (input_at inst.now.inputs i) (input_at inst.now.inputs j) k self.now) }
+    {
+        let _ = inst.count();
+        match &self.kind {
+            Kind::Listed(lists) => {
+                let query = Query::of(self.alloc, lists, inst.input(i), inst.input(j), k)?;
+                Ok(Some(size(&query)))
+            }
+            Kind::Many(_) => Ok(None),
+        }
+    }
+
+    /// The pruned formula: it says the same as that of `build`, with variables for those segments and flips alone that crossings allow. Its time is near the number of its clauses and of the frame's pairs in all layers.
+    pub fn build2(&self, inst: &Instance, i: u32, j: u32, k: u32) -> Result<Cnf, BuildFault>
+        requires frame { IsHeldFrame inst.now.points self.now }
+        requires from { i < length inst.now.inputs }
+        requires to { j < length inst.now.inputs }
+        requires rounds { k ≤ 400_000 }
+        ensures built { IfOk result (λ built. IsPrunedBuilt inst.now.points (input_at inst.now.inputs i) (input_at inst.now.inputs j) k self.now built) }
+        ensures few { IfOk result (λ built. length built.clauses ≤ 400_000) }
+        ensures within { IfOk result (λ built. HasModel built.clauses ↔ Within inst.now.points (input_at inst.now.inputs i) (input_at inst.now.inputs j) k) }
+        ensures fault { IfErr result (λ fault. IsPrunedFault inst.now.points (input_at inst.now.inputs i) (input_at inst.now.inputs j) k self.now fault) }
+    {
+        let _ = inst.count();
+        match &self.kind {
+            Kind::Listed(lists) => {
+                let query = Query::of(self.alloc, lists, inst.input(i), inst.input(j), k)?;
+                let size = size(&query);
+                if size > MOST_CLAUSES {
+                    return Err(BuildFault::TooLarge(size));
+                }
+                Ok(build(self.alloc, &query)?)
+            }
+            Kind::Many(count) => Err(BuildFault::ManyPoints(*count)),
+        }
+    }
+
+    /// The rounds that a model of the pruned formula tells: they lead from input `i` to input `j`, and their edges are in edge order.
+    pub fn decode2(
+        &self,
+        inst: &Instance,
+        i: u32,
+        j: u32,
+        k: u32,
+        truth: &Truth,
+    ) -> Result<Rounds, AllocError>
+        requires frame { IsHeldFrame inst.now.points self.now }
+        requires from { i < length inst.now.inputs }
+        requires to { j < length inst.now.inputs }
+        requires rounds { k ≤ 400_000 }
+        requires model { SatisfiesPruned inst.now.points (input_at inst.now.inputs i) (input_at inst.now.inputs j) k self.now (listed truth.now) }
+        ensures told { IfOk result (λ rounds. AreToldByPruned inst.now.points (input_at inst.now.inputs i) (input_at inst.now.inputs j) k self.now (listed truth.now) rounds) }
+        ensures rounds { IfOk result (AreRounds inst.now.points (input_at inst.now.inputs i) (input_at inst.now.inputs j) k) }
+    {
+        let _ = inst.count();
+        match &self.kind {
+            Kind::Listed(lists) => {
+                let query = Query::of(self.alloc, lists, inst.input(i), inst.input(j), k)?;
+                decode(self.alloc, &query, truth)
+            }
             Kind::Many(_) => unreachable!(),
         }
     }

@@ -2,17 +2,11 @@
 #![tactic(auto)]
 
 mod build;
-mod crossings;
 mod decode;
 mod fault;
-mod flips;
 mod frame;
-mod lists;
 mod numbers;
-mod points;
-mod segments;
 mod size;
-mod tables;
 mod threads;
 
 pub use fault::BuildFault;

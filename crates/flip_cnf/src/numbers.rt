@@ -1,10 +1,10 @@
 // The numbers of the variables of a formula.
 ghost use Rattle.std.specs.Prelude.{◌≡◌, ◌+◌, ◌<◌, ◌≤◌, length};
 ghost use Rattle.formula_law.specs.Formula.{literal, there, made, variable_count};
-ghost use Rattle.flip_cnf.specs.Building.{IsFrameOfSome, pair_at};
-ghost use Rattle.flip_cnf.specs.Lists.{edge_at};
+ghost use Rattle.formula_parts.specs.Building.{IsFrameOfSome, pair_at};
+ghost use Rattle.formula_parts.specs.Lists.{edge_at};
 
-use crate::lists::Lists;
+use formula_parts::Lists;
 use rup_check::Lit;
 
 // Whether the segment with the number `n` is there after `t` rounds, as a literal.

@@ -2,7 +2,7 @@
 ghost use Rattle.std.specs.Prelude.{◌≡◌, ◌≤◌};
 ghost use Rattle.formula_law.specs.Formula.{clause_count, variable_count};
 
-use crate::lists::Lists;
+use formula_parts::Lists;
 
 // The number of clauses of `k` rounds.
 pub(crate) fn clauses(lists: &Lists, k: u32) -> u64

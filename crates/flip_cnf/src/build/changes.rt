@@ -1,11 +1,11 @@
 // The clauses that say that nothing changes but by flips.
 ghost use Rattle.std.specs.Prelude.{◌≡◌, ◌<◌, ◌≤◌, ◌++◌, length, OnOk, IfOk};
 ghost use Rattle.formula_law.specs.Formula.{change_clauses, leave_clause, come_clause, variable_count, there, made};
-ghost use Rattle.flip_cnf.specs.Building.{IsFrameOfSome, Takes, adding};
-ghost use Rattle.flip_cnf.specs.Lists.{edge_at};
+ghost use Rattle.formula_parts.specs.Building.{IsFrameOfSome, Takes, adding};
+ghost use Rattle.formula_parts.specs.Lists.{edge_at};
 
-use crate::lists::Lists;
 use crate::numbers::{made, there};
+use formula_parts::Lists;
 use rup_check::{Clause, Cnf};
 use std::alloc::{AllocError, Global};
 

@@ -1,11 +1,10 @@
 // The clauses that say that no two segments that cross are there.
 ghost use Rattle.std.specs.Prelude.{◌≡◌, ◌≤◌, OnOk};
 ghost use Rattle.formula_law.specs.Formula.{crossing_clauses, there};
-ghost use Rattle.flip_cnf.specs.Building.{IsFrameOfSome, Takes, adding};
+ghost use Rattle.formula_parts.specs.Building.{IsFrameOfSome, Takes, adding};
 
-use crate::build::clauses::pair;
-use crate::lists::Lists;
 use crate::numbers::there;
+use formula_parts::{Lists, pair};
 use rup_check::Cnf;
 use std::alloc::{AllocError, Global};
 

@@ -1,13 +1,13 @@
 // The clauses that say what a flip asks.
 ghost use Rattle.std.specs.Prelude.{◌≡◌, ◌<◌, ◌≤◌, length, map, IfOk, OnOk};
 ghost use Rattle.formula_law.specs.Formula.{demands, flip_clauses, variable_count, there, made};
-ghost use Rattle.flip_cnf.specs.Building.{IsFrameOfSome, Takes, adding, pair_at, asked, asks};
+ghost use Rattle.formula_parts.specs.Building.{IsFrameOfSome, Takes, adding, pair_at, asks};
+ghost use Rattle.flip_cnf.specs.Building.{asked};
 
-use crate::build::clauses::pair;
 use crate::build::sides::push_sides;
-use crate::lists::Lists;
 use crate::numbers::{made, there};
-use rup_check::{Clause, Cnf, Lit};
+use formula_parts::{Lists, add_asked};
+use rup_check::{Clause, Cnf};
 use std::alloc::{AllocError, Global};
 
 // What the flip with the number `n` asks of the segments before round `t` and after it.
@@ -25,18 +25,6 @@ fn demands(alloc: Global, lists: &Lists, t: u32, n: u32) -> Result<Clause, Alloc
     lits.push(there(lists, t + 1, g.1, true))?;
     push_sides(&mut lits, lists, t, lists.segment(g.0), lists.segment(g.1))?;
     Ok(lits)
-}
-
-// Adds, for each demand, that it holds where a flip is made.
-fn add_asked(alloc: Global, cnf: &mut Cnf, unmade: Lit, lits: &Clause) -> Result<(), AllocError>
-    requires { Takes cnf.old (map (asks unmade) lits.now) }
-    ensures { OnOk result (cnf.new ≡ adding cnf.old (map (asks unmade) lits.now)) }
-{
-    for i in 0..lits.len() {
-        let clause = pair(alloc, unmade, *lits.at(i))?;
-        cnf.add(clause)?;
-    }
-    Ok(())
 }
 
 // Adds what the flip with the number `n` asks where it is made in round `t`.

@@ -1,11 +1,10 @@
 // The clauses that say which segments are there after some rounds.
 ghost use Rattle.std.specs.Prelude.{◌≡◌, ◌≤◌, OnOk};
 ghost use Rattle.formula_law.specs.Formula.{layer_clauses, there};
-ghost use Rattle.flip_cnf.specs.Building.{IsFrameOfSome, Takes, adding};
+ghost use Rattle.formula_parts.specs.Building.{IsFrameOfSome, Takes, adding};
 
-use crate::build::clauses::unit;
-use crate::lists::Lists;
 use crate::numbers::there;
+use formula_parts::{Lists, unit};
 use rup_check::Cnf;
 use std::alloc::{AllocError, Global};
 use tri_check::Triang;

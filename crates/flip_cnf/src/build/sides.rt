@@ -3,12 +3,13 @@ ghost use Rattle.std.specs.Prelude.{◌≡◌, ◌<◌, ◌++◌, Contains, OnOk
 ghost use Rattle.std.specs.List.{flat_map};
 ghost use Rattle.edge_table.specs.Edges.{edge};
 ghost use Rattle.formula_law.specs.Formula.{sides};
-ghost use Rattle.flip_cnf.specs.Building.{IsFrameOfSome, four, stays};
-ghost use Rattle.flip_cnf.specs.Lists.{pair_of};
+ghost use Rattle.formula_parts.specs.Building.{IsFrameOfSome, four};
+ghost use Rattle.flip_cnf.specs.Building.{stays};
+ghost use Rattle.formula_parts.specs.Lists.{pair_of};
 
-use crate::lists::Lists;
 use crate::numbers::there;
 use edge_table::Edge;
+use formula_parts::Lists;
 use rup_check::Clause;
 use std::alloc::AllocError;
 

@@ -1,7 +1,7 @@
 use Rattle.std.proofs.Common.{◌+◌, arith}
 use Rattle.std.specs.List.{range_with_len}
 use Rattle.formula_law.specs.Formula.{crossing_clauses, there}
-use Rattle.flip_cnf.proofs.Appending.{begun, takes_number, added_number, done_number}
+use Rattle.formula_parts.proofs.Appending.{begun, takes_number, added_number, done_number}
 use Rattle.flip_cnf.proofs.build.add_all_crossings.Goals as goal
 
 pub loop-t-init : goal.loop-t-init

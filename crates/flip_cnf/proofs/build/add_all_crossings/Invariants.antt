@@ -1,7 +1,7 @@
 use Rattle.std.proofs.Common.{◌+◌}
 use Rattle.std.specs.List.{range_with_len}
 use Rattle.formula_law.specs.Formula.{crossing_clauses, there}
-use Rattle.flip_cnf.proofs.Appending.{Upto}
+use Rattle.formula_parts.proofs.Appending.{Upto}
 use Rattle.flip_cnf.proofs.build.add_all_crossings.Given as goal
 
 abbrev pub invariant-loop-t : goal.invariant-loop-t

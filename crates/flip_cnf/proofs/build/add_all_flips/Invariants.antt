@@ -1,6 +1,6 @@
 use Rattle.std.specs.List.{range_with_len}
 use Rattle.formula_law.specs.Formula.{flip_clauses, there, made}
-use Rattle.flip_cnf.proofs.Appending.{Upto}
+use Rattle.formula_parts.proofs.Appending.{Upto}
 use Rattle.flip_cnf.proofs.build.add_all_flips.Given as goal
 
 abbrev pub invariant-loop-t : goal.invariant-loop-t

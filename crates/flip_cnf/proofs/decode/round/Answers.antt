@@ -4,8 +4,8 @@ use Rattle.std.proofs.lemmas.List.{take_all}
 use Rattle.log_law.specs.Clauses.{listed}
 use Rattle.formula_law.specs.Frames.{Pair}
 use Rattle.formula_law.specs.Formula.{made}
-use Rattle.flip_cnf.specs.Building.{no_pair, pair_at}
-use Rattle.flip_cnf.proofs.Kept.{kept, skipped}
+use Rattle.formula_parts.specs.Building.{no_pair, pair_at}
+use Rattle.formula_parts.proofs.Kept.{kept, skipped}
 use Rattle.flip_cnf.proofs.decode.round.Goals as goal
 use Rattle.flip_cnf.proofs.decode.round.Goals.{then-is_made+in_ok-push, else-is_made}
 

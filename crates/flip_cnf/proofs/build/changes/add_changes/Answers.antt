@@ -1,9 +1,10 @@
 use Rattle.std.proofs.Common.{◌<◌, [], ◌∷◌, length, sym, subst, arith}
 use Rattle.log_law.specs.Clauses.{IsClause}
 use Rattle.formula_law.specs.Formula.{leave_clause, come_clause, there, made}
-use Rattle.flip_cnf.specs.Lists.{no_edge, edge_at}
-use Rattle.flip_cnf.specs.Building.{changes, Takes}
-use Rattle.flip_cnf.proofs.Appending.{begun, takes_next, added, done, first_fits, first_room, second_takes, both_added, single_fits, single_room}
+use Rattle.formula_parts.specs.Lists.{no_edge, edge_at}
+use Rattle.formula_parts.specs.Building.{Takes}
+use Rattle.flip_cnf.specs.Building.{changes}
+use Rattle.formula_parts.proofs.Appending.{begun, takes_next, added, done, first_fits, first_room, second_takes, both_added, single_fits, single_room}
 use Rattle.flip_cnf.proofs.build.changes.add_changes.Goals as goal
 
 pub loop-e-init : goal.loop-e-init

@@ -1,5 +1,5 @@
 use Rattle.flip_cnf.specs.Building.{changes}
-use Rattle.flip_cnf.proofs.Appending.{Upto}
+use Rattle.formula_parts.proofs.Appending.{Upto}
 use Rattle.flip_cnf.proofs.build.changes.add_changes.Given as goal
 
 abbrev pub invariant-loop-e : goal.invariant-loop-e

@@ -1,6 +1,6 @@
 use Rattle.std.proofs.Common.{◌∙◌, ◌<◌, [], ◌∷◌, ◌++◌, length, ap, arith}
 use Rattle.std.proofs.lemmas.List.{take_all}
-use Rattle.flip_cnf.specs.Lists.{edge_at}
+use Rattle.formula_parts.specs.Lists.{edge_at}
 use Rattle.flip_cnf.specs.Building.{coming}
 use Rattle.flip_cnf.proofs.Changing.{two, came_more, came_same}
 use Rattle.flip_cnf.proofs.build.changes.come.Goals as goal

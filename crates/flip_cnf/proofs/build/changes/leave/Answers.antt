@@ -1,6 +1,6 @@
 use Rattle.std.proofs.Common.{◌∙◌, ◌<◌, [], ◌∷◌, ◌++◌, length, ap, arith}
 use Rattle.std.proofs.lemmas.List.{take_all}
-use Rattle.flip_cnf.specs.Lists.{edge_at}
+use Rattle.formula_parts.specs.Lists.{edge_at}
 use Rattle.flip_cnf.specs.Building.{leaving}
 use Rattle.flip_cnf.proofs.Changing.{two, left_more, left_same}
 use Rattle.flip_cnf.proofs.build.changes.leave.Goals as goal

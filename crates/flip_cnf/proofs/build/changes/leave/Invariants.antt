@@ -1,5 +1,5 @@
 use Rattle.std.proofs.Common.{◌≡◌, take}
-use Rattle.flip_cnf.specs.Lists.{edge_at}
+use Rattle.formula_parts.specs.Lists.{edge_at}
 use Rattle.flip_cnf.specs.Building.{leaving}
 use Rattle.flip_cnf.proofs.build.changes.leave.Given as goal
 

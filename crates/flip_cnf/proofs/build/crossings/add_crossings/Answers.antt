@@ -1,7 +1,8 @@
 use Rattle.std.proofs.Common.{◌≡◌, ◌∙◌, ◌<◌, [], ◌∷◌, length, sym, ap, ap₂, arith}
 use Rattle.log_law.specs.Clauses.{Clause}
-use Rattle.flip_cnf.specs.Building.{no_pair, pair_at, not_both}
-use Rattle.flip_cnf.proofs.Appending.{fits_one, room_one, added_one, all_done, begun}
+use Rattle.formula_parts.specs.Building.{no_pair, pair_at}
+use Rattle.flip_cnf.specs.Building.{not_both}
+use Rattle.formula_parts.proofs.Appending.{fits_one, room_one, added_one, all_done, begun}
 use Rattle.flip_cnf.proofs.build.crossings.add_crossings.Goals as goal
 
 pub loop-n-init : goal.loop-n-init

@@ -1,6 +1,6 @@
 use Rattle.std.proofs.Common.{[], ◌∷◌}
 use Rattle.flip_cnf.specs.Building.{not_both}
-use Rattle.flip_cnf.proofs.Appending.{Upto}
+use Rattle.formula_parts.proofs.Appending.{Upto}
 use Rattle.flip_cnf.proofs.build.crossings.add_crossings.Given as goal
 
 abbrev pub invariant-loop-n : goal.invariant-loop-n

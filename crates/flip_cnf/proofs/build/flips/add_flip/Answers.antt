@@ -1,6 +1,7 @@
 use Rattle.std.proofs.Common.{◌≡◌, ◌∙◌, map, sym, ap, subst}
 use Rattle.formula_law.specs.Formula.{demands, there}
-use Rattle.flip_cnf.specs.Building.{pair_at, asked, asks, adding, Takes}
+use Rattle.formula_parts.specs.Building.{pair_at, asks, adding, Takes}
+use Rattle.flip_cnf.specs.Building.{asked}
 use Rattle.flip_cnf.proofs.build.flips.add_flip.Goals as goal
 
 pub add_asked-requires : goal.add_asked-requires

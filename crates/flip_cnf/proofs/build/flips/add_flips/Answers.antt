@@ -1,6 +1,7 @@
 use Rattle.std.proofs.Common.{◌<◌, length, arith}
-use Rattle.flip_cnf.specs.Building.{no_pair, asked}
-use Rattle.flip_cnf.proofs.Appending.{begun, takes_next, added, done}
+use Rattle.formula_parts.specs.Building.{no_pair}
+use Rattle.flip_cnf.specs.Building.{asked}
+use Rattle.formula_parts.proofs.Appending.{begun, takes_next, added, done}
 use Rattle.flip_cnf.proofs.build.flips.add_flips.Goals as goal
 
 pub loop-n-init : goal.loop-n-init

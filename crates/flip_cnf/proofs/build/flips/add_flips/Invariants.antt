@@ -1,5 +1,5 @@
 use Rattle.flip_cnf.specs.Building.{asked}
-use Rattle.flip_cnf.proofs.Appending.{Upto}
+use Rattle.formula_parts.proofs.Appending.{Upto}
 use Rattle.flip_cnf.proofs.build.flips.add_flips.Given as goal
 
 abbrev pub invariant-loop-n : goal.invariant-loop-n

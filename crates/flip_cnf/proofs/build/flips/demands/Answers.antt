@@ -2,8 +2,9 @@ use Rattle.std.proofs.Common.{◌≡◌, ◌∙◌, ◌∷◌, Contains, sym, ap
 use Rattle.std.specs.List.{flat_map}
 use Rattle.std.proofs.lemmas.List.Elements.{Contains-get_or}
 use Rattle.formula_law.specs.Formula.{sides, demands, there}
-use Rattle.flip_cnf.specs.Lists.{edge_at, linked, pair_of}
-use Rattle.flip_cnf.specs.Building.{no_pair, stays}
+use Rattle.formula_parts.specs.Lists.{edge_at, linked, pair_of}
+use Rattle.formula_parts.specs.Building.{no_pair}
+use Rattle.flip_cnf.specs.Building.{stays}
 use Rattle.flip_cnf.proofs.Asked.{five}
 use Rattle.flip_cnf.proofs.build.flips.demands.Goals as goal
 

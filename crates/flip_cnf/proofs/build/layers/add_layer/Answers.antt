@@ -2,10 +2,10 @@ use Rattle.std.proofs.Common.{◌≡◌, ◌∙◌, ◌<◌, [], ◌∷◌, leng
 use Rattle.log_law.specs.Clauses.{Clause}
 use Rattle.formula_law.specs.Formula.{literal, there}
 use Rattle.edge_table.specs.Edges.{is_member}
-use Rattle.flip_cnf.specs.Lists.{no_edge, edge_at}
+use Rattle.formula_parts.specs.Lists.{no_edge, edge_at}
 use Rattle.flip_cnf.specs.Building.{told_by}
-use Rattle.flip_cnf.proofs.Appending.{fits_one, room_one, added_one, all_done, begun}
-use Rattle.flip_cnf.proofs.Variables.{member_is}
+use Rattle.formula_parts.proofs.Appending.{fits_one, room_one, added_one, all_done, begun}
+use Rattle.formula_parts.proofs.Places.{member_is}
 use Rattle.flip_cnf.proofs.build.layers.add_layer.Goals as goal
 
 pub loop-n-init : goal.loop-n-init

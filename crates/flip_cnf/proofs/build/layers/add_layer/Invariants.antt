@@ -1,6 +1,6 @@
 use Rattle.flip_cnf.specs.Building.{told_by}
 use Rattle.std.proofs.Common.{[], ◌∷◌}
-use Rattle.flip_cnf.proofs.Appending.{Upto}
+use Rattle.formula_parts.proofs.Appending.{Upto}
 use Rattle.flip_cnf.proofs.build.layers.add_layer.Given as goal
 
 abbrev pub invariant-loop-n : goal.invariant-loop-n

@@ -1,6 +1,6 @@
 use Rattle.std.proofs.Common.{Contains, sym, subst₂, arith}
 use Rattle.edge_table.specs.Edges.{edge}
-use Rattle.flip_cnf.specs.Lists.{no_edge}
+use Rattle.formula_parts.specs.Lists.{no_edge}
 use Rattle.flip_cnf.proofs.build.sides.push_four.Goals as goal
 
 pub push_side-requires-clause-segment : goal.push_side-requires-clause-segment

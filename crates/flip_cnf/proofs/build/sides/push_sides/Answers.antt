@@ -1,8 +1,9 @@
 use Rattle.std.proofs.Common.{◌≡◌, ◌<◌, ◌≤◌, ◌++◌, Contains, OnOk, sym, subst, arith}
 use Rattle.std.specs.List.{flat_map}
 use Rattle.formula_law.proofs.Clauses.{all_of}
-use Rattle.flip_cnf.specs.Building.{four, stays}
-use Rattle.flip_cnf.proofs.Sides.{four_from, four_to, sides_from, sides_to}
+use Rattle.formula_parts.specs.Building.{four}
+use Rattle.flip_cnf.specs.Building.{stays}
+use Rattle.formula_parts.proofs.Sides.{four_from, four_to, sides_from, sides_to}
 use Rattle.flip_cnf.proofs.build.sides.push_sides.Goals as goal
 
 pub push_four-requires-clause-segments : goal.push_four-requires-clause-segments

@@ -1,5 +1,0 @@
-use Rattle.flip_cnf.specs.Found.{AreFound, IsCrossing}
-use Rattle.flip_cnf.proofs.crossings.add_from.Given as goal
-
-abbrev pub invariant-loop-j : goal.invariant-loop-j
-invariant-loop-j l = AreFound (IsCrossing l.inst.points l.segments) 4096 l.pairs.items l.i l.j

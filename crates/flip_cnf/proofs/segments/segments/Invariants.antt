@@ -1,6 +1,0 @@
-use Rattle.tri_theory.specs.Triangulations.{IsSegment}
-use Rattle.flip_cnf.specs.Found.{AreFound}
-use Rattle.flip_cnf.proofs.segments.segments.Given as goal
-
-abbrev pub invariant-loop-a : goal.invariant-loop-a
-invariant-loop-a l = AreFound (IsSegment l.inst.points) 64 l.found.items l.a 0

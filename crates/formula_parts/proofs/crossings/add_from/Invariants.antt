@@ -1,0 +1,5 @@
+use Rattle.formula_parts.specs.Found.{AreFound, IsCrossing}
+use Rattle.formula_parts.proofs.crossings.add_from.Given as goal
+
+abbrev pub invariant-loop-j : goal.invariant-loop-j
+invariant-loop-j l = AreFound (IsCrossing l.inst.points l.segments) 4096 l.pairs.items l.i l.j

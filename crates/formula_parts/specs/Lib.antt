@@ -1,0 +1,4 @@
+pub mod Building
+pub mod Found
+pub mod Lists
+pub mod Tables

@@ -1,0 +1,1 @@
+// The digits of the crossings of each segment with a triangulation.
