@@ -1,10 +1,11 @@
 -- The crossings of a segment with a triangulation are the frame's pairs of it with a member, and how those are counted pair by pair.
-use Rattle.std.proofs.Common.{◌≡◌, ◌≢◌, ◌⊎◌, inl, inr, ◌↔◌, ℕ, ◌+◌, ◌*◌, ◌^◌, ◌<◌, ◌≤◌, Bool, true, false, cond, not, ◌&&◌, ◌||◌, eqb, List, [], ◌∷◌, length, map, take, get_or, Contains, refl, sym, ap, ap₂, ◌∙◌, subst, arith}
+use Rattle.std.proofs.Common.{◌≡◌, ◌≢◌, ◌⊎◌, inl, inr, ◌↔◌, ℕ, ◌+◌, ◌-◌, ◌*◌, ◌^◌, ◌<◌, ◌≤◌, Bool, true, false, cond, not, ◌&&◌, ◌||◌, eqb, List, [], ◌∷◌, length, map, take, get_or, Contains, refl, sym, ap, ap₂, ◌∙◌, subst, arith}
 use Rattle.std.specs.Bool.{Decides}
 use Rattle.std.specs.List.{All, AllPairs, filter, count_by, sum_by}
 use Rattle.std.specs.Int.Count.{count_leading_zeros}
 use Rattle.std.proofs.Math.Dec.{ltb}
 use Rattle.std.proofs.Math.Pow.{pow_mono}
+use Rattle.std.proofs.lemmas.Grind.{pow_more}
 use Rattle.std.proofs.lemmas.Nat.{leading_length}
 use Rattle.std.proofs.lemmas.Bool.Decides.{Decides-and, Decides-or, Decides-not, Decides-eqb, Decides-ltb}
 use Rattle.std.proofs.lemmas.List.{length-map}
@@ -12,7 +13,6 @@ use Rattle.std.proofs.lemmas.List.Elements.{Contains-get_or}
 use Rattle.std.proofs.lemmas.List.Kept.{AllPairs-filter}
 use Rattle.std.proofs.lemmas.List.Sums.{length-filter, sum_by-cons, sum_by_more}
 use native.Mathlib.Decide.{dec_lt}
-use native.Mathlib.Nat.{pow-suc}
 use Rattle.geo_orient.specs.declared.Point.{Point}
 use Rattle.edge_table.specs.declared.edge.Edge.{Edge}
 use Rattle.edge_table.specs.Edges.{is_edge, is_member, IsBefore, IsAscending}
@@ -37,8 +37,8 @@ digits_left n r l e = by_length (leading_length 32 n l)
         doubled : digits n < m → ⊥
         doubled h =
             let w = below_power n in
-            let p : 2 ^ (digits n + 1) ≤ 2 ^ m = pow_mono {digits n + 1} {m} (omega arith) in
-            let q : 2 ^ (digits n + 1) ≡ 2 ^ digits n * 2 = pow-suc 2 (digits n) in
+            let p : 2 ^ (digits n + 1) ≤ 2 ^ m = pow_mono (omega arith) in
+            let q : 2 ^ (digits n + 1) ≡ 2 ^ digits n * 2 = pow_more 2 (digits n) in
             omega (arith, w, p, q, least)
 
         same : Dec (digits n < m) → digits n ≤ m → 32 - r ≡ digits n
@@ -65,7 +65,7 @@ firsts_ascend gs e up one i j d l h = by_order (up i j d l h)
     by_order (inl k) = k
     by_order (inr k) = absurd (not_before_itself e (subst (λ x. IsBefore x e) (one (get_or gs i d) (Contains-get_or gs i d (omega arith))) (subst (IsBefore (get_or gs i d).1) (one (get_or gs j d) (Contains-get_or gs j d h)) k.1)))
 
-before : Edge → Edge → Bool
+abbrev before : Edge → Edge → Bool
 before e f = ltb e.0 f.0 || (eqb e.0 f.0 && ltb e.1 f.1)
 
 before_decided : (e f : Edge) → Decides (before e f) (IsBefore e f)
@@ -75,16 +75,16 @@ crosses_back : (points : List Point) (e f : Edge) → Crosses points e f → Cro
 crosses_back points e f h = (h.1, h.0)
 
 module _ (points : List Point) (F : Frame) (I : IsFrame points F) (edges : List Edge) (N : IsTriangulation points edges) (e : Edge) (s : Contains F.segments e) where
-  first : Pair → Bool
+  abbrev first : Pair → Bool
   first g = is_edge e g.0 && is_member edges g.1
 
-  second : Pair → Bool
+  abbrev second : Pair → Bool
   second g = is_edge e g.1 && is_member edges g.0
 
-  later : Edge → Bool
+  abbrev later : Edge → Bool
   later f = crosses points e f && before e f
 
-  earlier : Edge → Bool
+  abbrev earlier : Edge → Bool
   earlier f = crosses points e f && not (before e f)
 
   first_said : (g : Pair) → Contains (filter first F.crossings) g → Contains F.crossings g × (e ≡ g.0) × Contains edges g.1
@@ -102,7 +102,7 @@ module _ (points : List Point) (F : Frame) (I : IsFrame points F) (edges : List 
   -- the members after e that it crosses
   laters : map (λ (g : Pair). g.1) (filter first F.crossings) ≡ filter later edges
   laters = same_members (map (λ (g : Pair). g.1) (filter first F.crossings)) (filter later edges)
-      (pairs_map IsBefore (λ (g : Pair). g.1) (filter first F.crossings) (seconds_ascend (filter first F.crossings) e (AllPairs-filter IsPairBefore first F.crossings I.crossings_ascend) (λ g h. sym (first_said g h).1.0)))
+      (pairs_map IsBefore (λ (g : Pair). g.1) (filter first F.crossings) (seconds_ascend (filter first F.crossings) e (AllPairs-filter IsPairBefore first F.crossings I.crossings_ascend) (λ g h. sym (first_said g h).1)))
       (AllPairs-filter IsBefore later edges N.ascending)
       (λ f. (to f, from f))
     where
@@ -116,8 +116,8 @@ module _ (points : List Point) (F : Frame) (I : IsFrame points F) (edges : List 
               subst (Contains (filter later edges)) i
               (filtered later edges g.1 w.2
               (and (crosses points e g.1) (before e g.1)
-              ((cross_decided points e g.1).1 (subst (λ x. Crosses points x g.1) (sym w.1) c.2.1))
-              ((before_decided e g.1).1 (subst (λ x. IsBefore x g.1) (sym w.1) c.2.0))))
+              ((cross_decided points e g.1).1 (subst (λ x. Crosses points x g.1) (sym w.1) c.3))
+              ((before_decided e g.1).1 (subst (λ x. IsBefore x g.1) (sym w.1) c.2))))
 
       from : (f : Edge) → Contains (filter later edges) f → Contains (map (λ (g : Pair). g.1) (filter first F.crossings)) f
       from f h =
@@ -131,7 +131,7 @@ module _ (points : List Point) (F : Frame) (I : IsFrame points F) (edges : List 
   -- and those before e
   earliers : map (λ (g : Pair). g.0) (filter second F.crossings) ≡ filter earlier edges
   earliers = same_members (map (λ (g : Pair). g.0) (filter second F.crossings)) (filter earlier edges)
-      (pairs_map IsBefore (λ (g : Pair). g.0) (filter second F.crossings) (firsts_ascend (filter second F.crossings) e (AllPairs-filter IsPairBefore second F.crossings I.crossings_ascend) (λ g h. sym (second_said g h).1.0)))
+      (pairs_map IsBefore (λ (g : Pair). g.0) (filter second F.crossings) (firsts_ascend (filter second F.crossings) e (AllPairs-filter IsPairBefore second F.crossings I.crossings_ascend) (λ g h. sym (second_said g h).1)))
       (AllPairs-filter IsBefore earlier edges N.ascending)
       (λ f. (to f, from f))
     where
@@ -142,11 +142,11 @@ module _ (points : List Point) (F : Frame) (I : IsFrame points F) (edges : List 
           by_pair (g, k, i) =
               let w = second_said g k in
               let c = (I.crossings g.0 g.1).0 w.0 in
-              let b : IsBefore g.0 e = subst (IsBefore g.0) (sym w.1) c.2.0 in
+              let b : IsBefore g.0 e = subst (IsBefore g.0) (sym w.1) c.2 in
               subst (Contains (filter earlier edges)) i
               (filtered earlier edges g.0 w.2
               (and (crosses points e g.0) (not (before e g.0))
-              ((cross_decided points e g.0).1 (crosses_back points g.0 e (subst (Crosses points g.0) (sym w.1) c.2.1)))
+              ((cross_decided points e g.0).1 (crosses_back points g.0 e (subst (Crosses points g.0) (sym w.1) c.3)))
               ((Decides-not (before e g.0) (before_decided e g.0)).1 (λ j. not_before_itself e (before_joins e g.0 e j b)))))
 
       from : (f : Edge) → Contains (filter earlier edges) f → Contains (map (λ (g : Pair). g.0) (filter second F.crossings)) f

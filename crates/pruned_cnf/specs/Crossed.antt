@@ -24,7 +24,7 @@ pub record AreDigits (points : List Point) (edges segments : List Edge) (found :
   pub few : All (λ d. d ≤ 32) found
 
 -- what a query keeps: the digits of all crossings with both triangulations
-pub record IsHeld (q : Query) (after_from before_to : List ℕ) : Type 0 where
+pub record IsHeld (q : Query) (after before : List ℕ) : Type 0 where
   pub query : IsQuery q
-  pub after_from : AreDigits q.points q.from q.frame.segments after_from
-  pub before_to : AreDigits q.points q.to q.frame.segments before_to
+  pub after_from : AreDigits q.points q.from q.frame.segments after
+  pub before_to : AreDigits q.points q.to q.frame.segments before
