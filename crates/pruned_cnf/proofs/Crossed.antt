@@ -3,13 +3,17 @@ use Rattle.std.proofs.Common.{◌≡◌, ◌≢◌, ◌⊎◌, inl, inr, ◌↔�
 use Rattle.std.specs.Bool.{Decides, IsTrue}
 use Rattle.std.specs.List.{All, AllPairs, filter, count_by, sum_by}
 use Rattle.std.specs.Int.Count.{count_leading_zeros}
+use Rattle.std.specs.declared.cmp.Ordering.{Ordering}
+use Rattle.std.specs.declared.cmp.Ordering.TheVariants.{Less, Equal, Greater}
+use Rattle.std.specs.Ordering.{is_lt, nat_cmp, ord_max}
+use Rattle.std.specs.Cmp.{nat_cmp_is}
 use Rattle.std.proofs.Math.Dec.{ltb}
 use Rattle.std.proofs.Math.Pow.{pow_mono}
 use Rattle.std.proofs.lemmas.Grind.{pow_more}
 use Rattle.std.proofs.lemmas.Nat.{leading_length}
 use Rattle.std.proofs.lemmas.Bool.Decides.{Decides-and, Decides-or, Decides-not, Decides-eqb, Decides-ltb}
 use Rattle.std.proofs.lemmas.Bool.{eq-eqb, ne_eqb}
-use Rattle.std.proofs.lemmas.List.{length-map, length-take, length-replicate, get_or-replicate, take_all, map_more, get_or-map, get_or_append_left, get_or_push}
+use Rattle.std.proofs.lemmas.List.{length-map, length-take, length-replicate, get_or-replicate, take_all, map_more, get_or-map, get_or_append_left, get_or_push, take_more}
 use Rattle.std.proofs.lemmas.List.Elements.{Contains-get_or}
 use Rattle.std.proofs.lemmas.List.Kept.{AllPairs-filter}
 use Rattle.std.proofs.lemmas.List.Sums.{length-filter, sum_by-cons, sum_by_more, sum_by-le}
@@ -261,9 +265,16 @@ all_more P xs x h k i d l = by_test (dec_lt i (length xs))
         let last : i ≡ length xs = omega (arith, l, long) in
         subst P (sym (ap (λ j. get_or (xs ++ x ∷ []) j d) last ∙ get_or_push xs x d (length xs) refl)) k
 
--- ---- two tests, the second one after the first
-pub and_then : {p b q r : Bool} → p ≡ true → p ≡ b → r ≡ q → r ≡ (b && q)
-and_then {p} {b} {q} {r} t e f = rw (sym e ∙ t) f
+pub most_more : (xs : List ℕ) (n m most : ℕ) → n < length xs → All (λ d. d ≤ m) (take n xs) → m ≤ most → get_or xs n 0 ≤ most → All (λ d. d ≤ most) (take (n + 1) xs)
+most_more xs n m most l all up last = subst (All (λ d. d ≤ most)) (sym (take_more xs n 0 l)) (all_more (λ d. d ≤ most) (take n xs) (get_or xs n 0) (λ k d h. let a = all k d h in omega (arith, a, up)) last)
 
-pub and_else : {p b : Bool} (q : Bool) → p ≡ false → p ≡ b → p ≡ (b && q)
-and_else {p} {b} q t e = rw (sym e ∙ t) t
+pub max_bounds : (a b r m : ℕ) → r ≡ ord_max nat_cmp a b → a ≤ m → b ≤ m → (a ≤ r) × (b ≤ r) × (r ≤ m)
+max_bounds a b r m e ha hb = by_tests (dec_lt b a) (dec_lt a b)
+  where
+    is : (o : Ordering) → o ≡ nat_cmp b a → r ≡ cond (is_lt o) a b
+    is o i = e ∙ ap (λ o. cond (is_lt o) a b) (sym i)
+
+    by_tests : Dec (b < a) → Dec (a < b) → (a ≤ r) × (b ≤ r) × (r ≤ m)
+    by_tests (yes l) _ = let k : r ≡ a = is Less (nat_cmp_is b a Less l) in (omega arith, omega arith, omega arith)
+    by_tests (no n) (yes l) = let k : r ≡ b = is Greater (nat_cmp_is b a Greater l) in (omega arith, omega arith, omega arith)
+    by_tests (no n) (no o) = let k : r ≡ b = is Equal (nat_cmp_is b a Equal (omega arith)) in (omega arith, omega arith, omega arith)

@@ -1,2 +1,3 @@
 mod Crossed
+mod Held
 mod LayerSizes

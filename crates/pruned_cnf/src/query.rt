@@ -34,7 +34,7 @@ impl<'a> Model for Query<'a> {
 
     ghost view = { λ q. record { points = q.from.now.points; frame = q.lists.now; from = q.from.now.edges; to = q.to.now.edges; rounds = q.rounds } };
 
-    ghost invariant = { λ q. IsHeld (record { points = q.from.now.points; frame = q.lists.now; from = q.from.now.edges; to = q.to.now.edges; rounds = q.rounds }) q.after_from.items q.before_to.items };
+    ghost invariant = { λ q. IsHeld (record { points = q.from.now.points; frame = q.lists.now; from = q.from.now.edges; to = q.to.now.edges; rounds = q.rounds }) q.to.now.points q.after_from.items q.before_to.items };
 }
 
 // The greatest of these numbers of digits, and 0 of none.
