@@ -1,0 +1,2 @@
+pub mod FewVariables
+pub mod Numbers
