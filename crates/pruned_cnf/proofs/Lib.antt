@@ -1,2 +1,3 @@
 pub mod FewVariables
 pub mod Numbers
+pub mod ReadNumbers

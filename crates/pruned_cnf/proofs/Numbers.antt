@@ -1,11 +1,11 @@
 -- Numbers that go up at each live place, layer by layer, and at each live flip, round by round.
-use Rattle.std.proofs.Common.{◌≡◌, ◌⊎◌, inl, inr, ℕ, ◌+◌, ◌*◌, ◌<◌, ◌≤◌, Bool, true, false, cond, List, [], ◌∷◌, ◌++◌, length, get_or, take, drop, map, Contains, Option, Some, None, refl, sym, ap, ◌∙◌, subst, arith, length-append}
+use Rattle.std.proofs.Common.{◌≡◌, ◌⊎◌, inl, inr, ℕ, ◌+◌, ◌*◌, ◌<◌, ◌≤◌, Bool, true, false, cond, List, [], ◌∷◌, ◌++◌, length, get_or, take, drop, map, Contains, Option, Some, None, refl, sym, ap, ap₂, ◌∙◌, subst, arith, append_assoc, length-append}
 use Rattle.std.specs.List.{AllPairs, filter, flat_map, sum_by, position_or_len, range_with_len}
-use Rattle.std.proofs.Math.Nat.{mul-le-mul_left}
-use Rattle.std.proofs.lemmas.Nat.{mul-le}
-use Rattle.std.proofs.lemmas.List.{append-nil, take-append-drop, drop_more, get_or_at, map-id, length-map}
+use Rattle.std.proofs.lemmas.Nat.{mul-le, mul-add-lt}
+use Rattle.std.proofs.lemmas.List.{append-nil, take-append-drop, take_all, drop_more, map_more, get_or_at, map-id, length-map}
 use Rattle.std.proofs.lemmas.List.Concat.{get_or-flat_map}
 use Rattle.std.proofs.lemmas.List.Elements.{Contains-get_or, filter-append}
+use Rattle.std.proofs.lemmas.List.Filters.{length-filter_more}
 use Rattle.std.proofs.lemmas.List.FromFn.{length-range_with_len, get_or-range_with_len, map-range_with_len_more, take-map-range_with_len}
 use Rattle.std.proofs.lemmas.List.Kept.{AllPairs-filter}
 use Rattle.std.proofs.lemmas.List.Sums.{sum_by-cons, sum_by_push, sum_by-take-le, sum_by-le}
@@ -90,6 +90,9 @@ module _ {Y : Type 0} (f : ℕ → List Y) (w : ℕ) (same : (t : ℕ) → lengt
   pub rows_long : (m : ℕ) → length (flat_map f (range_with_len 0 m)) ≡ m * w
   rows_long m = length_each f w (range_with_len 0 m) (λ t i. same t) ∙ ap (λ n. n * w) (length-range_with_len 0 m)
 
+  pub row_within : (m t n : ℕ) → t < m → n < w → t * w + n < length (flat_map f (range_with_len 0 m))
+  row_within m t n h l = omega (arith, rows_long m, mul-add-lt t w n m h l)
+
   pub row_entry : (m t n : ℕ) (d : Y) → t < m → n < w → get_or (flat_map f (range_with_len 0 m)) (t * w + n) d ≡ get_or (f t) n d
   row_entry m t n d h l =
       ap (λ i. get_or (flat_map f (range_with_len 0 m)) (i + n) d) (sym before)
@@ -109,6 +112,18 @@ given live test before last number e f h = by_test (true_or_false test)
     by_test : (test ≡ true) ⊎ (test ≡ false) → cond live (Some (last + 1)) None ≡ cond test (Some number) None
     by_test (inl t) = let i : last + 1 ≡ number = omega (arith, h t) in rw (e, t) (ap Some i)
     by_test (inr t) = rw (e, t) refl
+
+-- the number of one more
+pub more_entries : {X Y : Type 0} (f : X → Y) (xs : List X) (n : ℕ) (d : X) (old now new : List Y) (y : Y) → n < length xs → now ≡ old ++ map f (take n xs) → new ≡ now ++ y ∷ [] → y ≡ f (get_or xs n d) → new ≡ old ++ map f (take (n + 1) xs)
+more_entries f xs n d old now new y l u v e =
+    v ∙ ap₂ (λ ys z. ys ++ z ∷ []) u e ∙ append_assoc old (map f (take n xs)) (f (get_or xs n d) ∷ []) ∙ ap (λ ys. old ++ ys) (sym (map_more f xs n d l))
+
+-- and how many are kept by then
+pub more_kept : {X : Type 0} (p : X → Bool) (xs : List X) (n : ℕ) (d : X) (before last new : ℕ) (b : Bool) → n < length xs → b ≡ p (get_or xs n d) → last ≡ before + length (filter p (take n xs)) → new ≡ last + cond b 1 0 → new ≡ before + length (filter p (take (n + 1) xs))
+more_kept p xs n d before last new b l e u v = let c = ap {B = ℕ} (λ t. cond t 1 0) e in omega (arith, c, u, v, length-filter_more p xs n d l)
+
+pub all_kept : {X : Type 0} (p : ℕ → X → Bool) (xs : List X) (n t before last : ℕ) → length xs ≤ n → last ≡ before + sum_by (λ u. length (filter (p u) xs)) (range_with_len 0 t) + length (filter (p t) (take n xs)) → last ≡ before + sum_by (λ u. length (filter (p u) xs)) (range_with_len 0 (t + 1))
+all_kept p xs n t before last h u = let a = ap (λ ys. length (filter (p t) ys)) (take_all n xs h) in omega (arith, a, u, sum_more (λ u. length (filter (p u) xs)) t)
 
 -- ---- the places and flips of a frame
 module _ (F : Frame) (live : Live) (k : ℕ) where

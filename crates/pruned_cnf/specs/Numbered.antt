@@ -33,6 +33,6 @@ flips_before q t = count_of_places q + sum_by (λ u. length (filter (is_live_fli
 
 -- these lists hold the numbers of all places and all flips, and this is the number of variables
 pub record AreNumbered (q : Query) (places flips : List (Option ℕ)) (variables : ℕ) : Type 0 where
-  pub places : places ≡ layers_numbers q (q.rounds + 1)
-  pub flips : flips ≡ rounds_numbers q q.rounds
-  pub variables : variables ≡ variables_in q
+  pub layers : places ≡ layers_numbers q (q.rounds + 1)
+  pub rounds : flips ≡ rounds_numbers q q.rounds
+  pub count : variables ≡ variables_in q

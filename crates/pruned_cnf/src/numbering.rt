@@ -109,15 +109,15 @@ impl<'a> Model for Numbering<'a> {
 
     ghost Value = { Query };
 
-    ghost view = { λ n. n.query };
+    ghost view = { λ n. n.query.now };
 
-    ghost invariant = { λ n. AreNumbered n.query n.places.items n.flips.items n.variables };
+    ghost invariant = { λ n. AreNumbered n.query.now n.places.items n.flips.items n.variables };
 }
 
 impl<'a> Numbering<'a> {
     // That of a query whose formula has at most 400,000 clauses.
     pub(crate) fn of(alloc: Global, query: &'a Query<'a>) -> Result<Numbering<'a>, AllocError>
-        requires { length (clauses_in query.entry.now) ≤ 400_000 }
+        requires { length (clauses_in query.now) ≤ 400_000 }
         ensures { IfOk result (λ n. n ≡ query.entry.now) }
     {
         let _ = query.lists().segments();
