@@ -1,3 +1,4 @@
 pub mod FewVariables
 pub mod Numbers
 pub mod ReadNumbers
+pub mod ToldRounds

@@ -1,5 +1,5 @@
 // The rounds that a model of a pruned formula tells.
-ghost use Rattle.std.specs.Prelude.{◌≡◌, ◌+◌, ◌<◌, ◌≤◌, length, filter, IfOk, OnOk};
+ghost use Rattle.std.specs.Prelude.{◌≡◌, ◌+◌, ◌*◌, ◌<◌, ◌≤◌, length, filter, IfOk, OnOk};
 ghost use Rattle.log_law.specs.Clauses.{listed};
 ghost use Rattle.formula_law.specs.PrunedFormula.{live_round_of};
 ghost use Rattle.pruned_cnf.specs.Queries.{live_in, rounds_in};
@@ -27,7 +27,7 @@ fn count_layer(query: &Query, t: u32) -> u64
 // How many places are live.
 fn count_places(query: &Query) -> u64
     ensures count { result ≡ count_of_places query.now }
-    ensures few { result ≤ 2_000_000_000 }
+    ensures few { result ≤ (query.now.rounds + 1) * 4096 }
 {
     let mut live: u64 = 0;
     for t in 0..=query.rounds() {
@@ -57,17 +57,18 @@ fn read_round(
     last: &mut u64,
 ) -> Result<EdgeSeq, AllocError>
     requires round { t < query.now.rounds }
-    requires few { count_of_places query.now ≤ 2_000_000_000 }
+    requires few { count_of_places query.now ≤ (query.now.rounds + 1) * 4096 }
     requires last { last.old ≡ flips_before query.now t }
     ensures edges { IfOk result (λ edges. edges ≡ live_round_of query.now.frame (live_in query.now) (listed truth.now) query.now.rounds t) }
     ensures last { OnOk result (last.new ≡ flips_before query.now (t + 1)) }
 {
+    let lists = query.lists();
     let mut edges = EdgeSeq::make(alloc);
-    for n in 0..query.lists().flips() {
+    for n in 0..lists.flips() {
         if query.is_live_flip(t, n) {
             *last += 1;
             if is_on(truth, *last) {
-                edges.push(query.lists().segment(query.lists().flip(n).0))?;
+                edges.push(lists.segment(lists.flip(n).0))?;
             }
         }
     }
