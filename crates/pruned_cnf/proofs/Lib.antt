@@ -1,3 +1,4 @@
+mod Crossed
 pub mod FewVariables
 pub mod Numbers
 pub mod ReadNumbers
