@@ -33,7 +33,7 @@ impl Numbers {
     }
 }
 
-// Numbers the segments after `t` rounds.
+// Numbers the segments after `t` rounds. A formula of at most 400,000 clauses has no more than 404,096 variables, since all but those of the last layer have a clause each.
 fn number_layer(query: &Query, numbers: &mut Numbers, t: u32) -> Result<(), AllocError>
     requires few { variables_in query.now ≤ 404_096 }
     requires layer { t ≤ query.now.rounds }

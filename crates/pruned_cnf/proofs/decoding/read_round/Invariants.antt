@@ -8,5 +8,5 @@ use Rattle.pruned_cnf.proofs.decoding.read_round.Given as goal
 abbrev pub invariant-loop-n : goal.invariant-loop-n
 invariant-loop-n l = record {
   edges : l.edges ≡ map (λ g. g.0) (filter (λ g. is_live_flip_in l.query l.t g && listed l.truth (flip_in l.query l.t g)) (take l.n l.query.frame.flips));
-  last : l.last ≡ flips_before l.query l.t + length (filter (is_live_flip_in l.query l.t) (take l.n l.query.frame.flips))
+  last : l.last ≡ flips_before l.query l.t + length (filter (is_live_flip_in l.query l.t) (take l.n l.query.frame.flips));
 }
