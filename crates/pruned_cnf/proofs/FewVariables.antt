@@ -1,6 +1,6 @@
 -- A pruned formula with few clauses has few variables: nearly each has a clause of its own.
-use Rattle.std.proofs.Common.{◌≡◌, ◌⊎◌, inl, inr, ℕ, ◌+◌, ◌<◌, ◌≤◌, Bool, true, false, cond, ◌&&◌, List, [], ◌∷◌, ◌++◌, length, map, Contains, refl, arith, length-append}
-use Rattle.std.specs.List.{filter, flat_map, list_all, sum_by, range_with_len}
+use Rattle.std.proofs.Common.{◌≡◌, ◌⊎◌, inl, inr, ℕ, ◌+◌, ◌≤◌, Bool, true, false, cond, ◌&&◌, List, [], ◌∷◌, ◌++◌, length, map, Contains, arith, length-append}
+use Rattle.std.specs.List.{filter, flat_map, list_all, range_with_len}
 use Rattle.std.proofs.lemmas.List.{length-map}
 use Rattle.std.proofs.lemmas.List.Sums.{sum_by-le-sum_by}
 use Rattle.edge_table.specs.declared.edge.Edge.{Edge}
@@ -8,7 +8,7 @@ use Rattle.log_law.specs.declared.Lit.{Lit}
 use Rattle.log_law.specs.Clauses.{Clause}
 use Rattle.formula_law.specs.Frames.{Pair, Frame}
 use Rattle.formula_law.specs.Formula.{literal, sides}
-use Rattle.formula_law.specs.PrunedFormula.{Live, is_live_flip, live_places, live_flips, live_there, live_made, live_variable_count, if_live, live_demands, live_flip_clauses, live_leave_clause, live_come_clause, live_change_clauses, pruned_formula}
+use Rattle.formula_law.specs.PrunedFormula.{Live, is_live_flip, live_there, live_made, live_variable_count, if_live, live_demands, live_flip_clauses, live_leave_clause, live_come_clause, live_change_clauses, pruned_formula}
 use Rattle.formula_law.proofs.Clauses.{both, true_or_false, in_first, in_later, in_filter}
 use Rattle.formula_law.proofs.PrunedCounts.{pruned_length}
 use Rattle.pruned_cnf.proofs.Numbers.{kept_few, sum_more, places_sum, flips_sum}

@@ -1,5 +1,5 @@
 -- Numbers that go up at each live place, layer by layer, and at each live flip, round by round.
-use Rattle.std.proofs.Common.{◌≡◌, ◌⊎◌, inl, inr, ℕ, ◌+◌, ◌*◌, ◌<◌, ◌≤◌, Bool, true, false, cond, List, [], ◌∷◌, ◌++◌, length, get_or, take, drop, map, Contains, Option, Some, None, refl, sym, ap, ap₂, ◌∙◌, subst, arith, append_assoc, length-append}
+use Rattle.std.proofs.Common.{◌≡◌, ◌⊎◌, inl, inr, ℕ, ◌+◌, ◌*◌, ◌<◌, ◌≤◌, Bool, true, false, cond, List, [], ◌∷◌, ◌++◌, length, get_or, take, drop, map, Some, None, refl, sym, ap, ap₂, ◌∙◌, subst, arith, append_assoc, length-append}
 use Rattle.std.specs.List.{AllPairs, filter, flat_map, sum_by, position_or_len, range_with_len}
 use Rattle.std.proofs.lemmas.Nat.{mul-le, mul-add-lt}
 use Rattle.std.proofs.lemmas.List.{append-nil, take-append-drop, take_all, drop_more, map_more, get_or_at, map-id, length-map}
@@ -11,10 +11,9 @@ use Rattle.std.proofs.lemmas.List.Kept.{AllPairs-filter}
 use Rattle.std.proofs.lemmas.List.Sums.{sum_by-cons, sum_by_push, sum_by-take-le, sum_by-le}
 use Rattle.std.proofs.lemmas.Grind.{flat_map-append}
 use Rattle.geo_orient.specs.declared.Point.{Point}
-use Rattle.edge_table.specs.declared.edge.Edge.{Edge}
 use Rattle.edge_table.specs.Edges.{is_edge, IsBefore}
 use Rattle.edge_table.proofs.Ascending.{not_before_itself}
-use Rattle.formula_law.specs.Frames.{Pair, Frame, IsFrame, IsPairBefore}
+use Rattle.formula_law.specs.Frames.{Frame, IsFrame, IsPairBefore}
 use Rattle.formula_law.specs.Formula.{is_pair}
 use Rattle.formula_law.specs.PrunedFormula.{Live, is_live_flip, live_places, live_flips, live_there, live_made, live_variable_count}
 use Rattle.formula_law.proofs.Clauses.{true_or_false, filtered}

@@ -1,5 +1,5 @@
 -- The numbers of a place and of a flip, as they stand in the lists of all.
-use Rattle.std.proofs.Common.{◌≡◌, ℕ, ◌+◌, ◌*◌, ◌<◌, ◌≤◌, List, length, get_or, Option, None, ap, ◌∙◌, subst, sym, arith}
+use Rattle.std.proofs.Common.{◌≡◌, ℕ, ◌+◌, ◌*◌, ◌<◌, ◌≤◌, List, length, get_or, Option, None, ap, ◌∙◌, arith}
 use Rattle.std.proofs.lemmas.List.{length-map, get_or-map}
 use Rattle.formula_parts.specs.Building.{no_pair, pair_at}
 use Rattle.formula_parts.specs.Lists.{no_edge, edge_at}

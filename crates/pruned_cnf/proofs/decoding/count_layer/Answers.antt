@@ -1,4 +1,4 @@
-use Rattle.std.proofs.Common.{◌≡◌, ◌∙◌, ◌<◌, length, true, false, sym, ap, arith}
+use Rattle.std.proofs.Common.{◌∙◌, ◌<◌, length, true, false, sym, ap, arith}
 use Rattle.formula_law.specs.Frames.{Frame}
 use Rattle.formula_parts.specs.Lists.{no_edge}
 use Rattle.pruned_cnf.specs.Queries.{live_in}

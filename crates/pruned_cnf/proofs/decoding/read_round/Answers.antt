@@ -2,7 +2,6 @@ use Rattle.std.proofs.Common.{◌≡◌, ◌∙◌, ◌<◌, ◌≤◌, length, 
 use Rattle.log_law.specs.Clauses.{listed}
 use Rattle.formula_law.specs.Frames.{Pair, Frame}
 use Rattle.formula_parts.specs.Building.{no_pair, pair_at}
-use Rattle.formula_parts.specs.Lists.{edge_at}
 use Rattle.pruned_cnf.specs.Queries.{live_in, is_live_flip_in}
 use Rattle.pruned_cnf.specs.Numbered.{count_of_places, flips_before}
 use Rattle.pruned_cnf.proofs.Numbers.{more_kept, all_kept, flip_few, variables_within}
