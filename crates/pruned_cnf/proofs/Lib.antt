@@ -1,4 +1,5 @@
 mod Crossed
+mod LayerSizes
 pub mod FewVariables
 pub mod Numbers
 pub mod ReadNumbers
