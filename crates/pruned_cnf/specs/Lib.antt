@@ -1,3 +1,4 @@
 pub mod Crossed
+pub mod Numbered
 pub mod Queries
 pub mod Sizes
