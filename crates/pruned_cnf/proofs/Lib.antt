@@ -1,0 +1,3 @@
+pub mod Chosen
+pub mod FlipChains
+pub mod GroupsInTurn
