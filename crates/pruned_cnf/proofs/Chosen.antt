@@ -1,5 +1,5 @@
 -- What is made of those elements of a list that pass a test.
-use Rattle.std.proofs.Common.{◌≡◌, ◌⊎◌, inl, inr, ℕ, suc, ◌+◌, ◌<◌, ◌≤◌, ◌-◌, Bool, true, false, cond, Option, Some, None, List, [], ◌∷◌, ◌++◌, length, get_or, take, map, refl, sym, ap, ◌∙◌, arith}
+use Rattle.std.proofs.Common.{◌≡◌, ◌⊎◌, inl, inr, ℕ, zero, suc, ◌+◌, ◌<◌, ◌≤◌, ◌-◌, Bool, true, false, cond, Option, Some, None, List, [], ◌∷◌, ◌++◌, length, get_or, take, map, refl, sym, ap, ◌∙◌, arith}
 use Rattle.std.specs.List.{filter, flat_map}
 use Rattle.std.proofs.lemmas.List.{append-nil, take_all}
 use Rattle.std.proofs.lemmas.List.Concat.{flat_map_single}
@@ -33,7 +33,7 @@ not_there false x e = refl
 -- ---- the first elements of a list, up to one place or a later one
 module _ {X : Type 0} (p : X → Bool) (xs : List X) (d : X) (i : ℕ) where
   passed : (k : ℕ) → i + k ≤ length xs → ((j : ℕ) → i ≤ j → j < i + k → p (get_or xs j d) ≡ false) → filter p (take (i + k) xs) ≡ filter p (take i xs)
-  passed 0 r h = ap (λ m. filter p (take m xs)) (let e : i + 0 ≡ i = omega arith in e)
+  passed zero r h = ap (λ m. filter p (take m xs)) (let e : i + 0 ≡ i = omega arith in e)
   passed (suc k) r h =
       ap (λ m. filter p (take m xs)) (let e : i + suc k ≡ (i + k) + 1 = omega arith in e)
       ∙ filter_more p xs (i + k) d (omega arith)

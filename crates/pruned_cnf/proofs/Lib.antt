@@ -1,3 +1,4 @@
+mod Crossed
 pub mod Chosen
 pub mod FlipChains
 pub mod GroupsInTurn

@@ -21,5 +21,5 @@ pub record AreChained (F : Frame) (change : Change) (firsts nexts : List (Option
 
 -- those of all flips
 pub record IsChain (F : Frame) (change : Change) (chain : Chain) : Type 0 where
-  pub change : chain.change ≡ change
+  pub kind : chain.change ≡ change
   pub chained : AreChained F change chain.firsts.items chain.nexts.items 0

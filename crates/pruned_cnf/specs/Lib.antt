@@ -1,3 +1,5 @@
 pub mod Chains
+pub mod Crossed
 pub mod Groups
 pub mod Queries
+pub mod Sizes
