@@ -21,14 +21,15 @@ pub map_one : {X Y : Type 0} (h : X → Y) (x : X) (b : Bool) → map h (cond b 
 map_one h x true = refl
 map_one h x false = refl
 
--- ---- a number that is there under a test
-pub there : (b : Bool) (x v : ℕ) → Some v ≡ cond b (Some x) None → (b ≡ true) × (v ≡ x)
-there true x v e = (refl, cc)
-there false x v e = absurd (cc)
+-- ---- what is made where a test gives true: of a number that is there
+module _ {Y : Type 0} (f : ℕ → List Y) where
+  pub there : (b : Bool) (x v : ℕ) → Some v ≡ cond b (Some x) None → cond b (f x) [] ≡ f v
+  there true x v e = ap f (let q : x ≡ v = cc in q)
+  there false x v e = absurd (cc)
 
-pub not_there : (b : Bool) (x : ℕ) → None ≡ cond b (Some x) None → b ≡ false
-not_there true x e = absurd (cc)
-not_there false x e = refl
+  pub not_there : (b : Bool) (x : ℕ) → None ≡ cond b (Some x) None → cond b (f x) [] ≡ []
+  not_there true x e = absurd (cc)
+  not_there false x e = refl
 
 -- ---- the first elements of a list, up to one place or a later one
 module _ {X : Type 0} (p : X → Bool) (xs : List X) (d : X) (i : ℕ) where

@@ -1,4 +1,5 @@
 mod Crossed
+pub mod AddedWhere
 pub mod Chosen
 pub mod FlipChains
 pub mod GroupsInTurn

@@ -20,6 +20,7 @@ use changes::add_changes;
 use crossings::add_crossings;
 use flips::add_flips;
 use layers::add_layer;
+use literals::lists_of;
 use rup_check::Cnf;
 use std::alloc::{AllocError, Global};
 
@@ -28,9 +29,8 @@ fn add_all_crossings(alloc: Global, cnf: &mut Cnf, numbering: &Numbering) -> Res
     requires { Takes cnf.old (flat_map (crossings_in numbering.now) (range_with_len 0 (numbering.now.rounds + 1))) }
     ensures { OnOk result (cnf.new ≡ adding cnf.old (flat_map (crossings_in numbering.now) (range_with_len 0 (numbering.now.rounds + 1)))) }
 {
-    let query = numbering.query();
-    let _lists = query.lists();
-    for t in 0..query.rounds() + 1 {
+    let _lists = lists_of(numbering);
+    for t in 0..numbering.query().rounds() + 1 {
         add_crossings(alloc, cnf, numbering, t)?;
     }
     Ok(())

@@ -8,7 +8,7 @@ ghost use Rattle.pruned_cnf.specs.Groups.{changes_in, changing_flips, change_cla
 
 use crate::numbering::Numbering;
 use crate::writing::chains::{Chain, Change};
-use crate::writing::literals::{push_if_live, push_if_made};
+use crate::writing::literals::{can_be_there, lists_of, push_if_live, push_if_made};
 use rup_check::{Clause, Cnf};
 use std::alloc::{AllocError, Global};
 
@@ -89,10 +89,9 @@ fn add_change(
     requires takes { Takes cnf.old (change_of numbering.now t chain.now.change (edge_at numbering.now.frame.segments e)) }
     ensures { OnOk result (cnf.new ≡ adding cnf.old (change_of numbering.now t chain.now.change (edge_at numbering.now.frame.segments e))) }
 {
-    let query = numbering.query();
-    let _lists = query.lists();
+    let _lists = lists_of(numbering);
     let layer = layer_of(t, chain.change);
-    if query.is_live(layer, e) {
+    if can_be_there(numbering, layer, e) {
         let clause = clause_of(alloc, numbering, chain, t, e)?;
         cnf.add(clause)?;
     }
@@ -114,7 +113,7 @@ pub(crate) fn add_changes(
     requires takes { Takes cnf.old (changes_in numbering.now t) }
     ensures { OnOk result (cnf.new ≡ adding cnf.old (changes_in numbering.now t)) }
 {
-    for e in 0..numbering.query().lists().segments() {
+    for e in 0..lists_of(numbering).segments() {
         add_change(alloc, cnf, numbering, leaving, t, e)?;
         add_change(alloc, cnf, numbering, coming, t, e)?;
     }

@@ -4,7 +4,7 @@ ghost use Rattle.formula_parts.specs.Building.{Takes, adding, pair_at};
 ghost use Rattle.pruned_cnf.specs.Groups.{demands_in, flips_in, asked};
 
 use crate::numbering::Numbering;
-use crate::writing::literals::push_if_live;
+use crate::writing::literals::{lists_of, push_if_live};
 use crate::writing::sides::push_sides;
 use formula_parts::add_asked;
 use rup_check::{Clause, Cnf, Lit};
@@ -16,7 +16,7 @@ fn demands(alloc: Global, numbering: &Numbering, t: u32, n: u32) -> Result<Claus
     requires within { n < length numbering.now.frame.flips }
     ensures { IfOk result (λ lits. lits ≡ demands_in numbering.now t (pair_at numbering.now.frame.flips n)) }
 {
-    let lists = numbering.query().lists();
+    let lists = lists_of(numbering);
     let g = lists.flip(n);
     let mut lits = Clause::make(alloc);
     push_if_live(&mut lits, numbering, t, g.0, true)?;
@@ -67,7 +67,7 @@ pub(crate) fn add_flips(
     requires takes { Takes cnf.old (flips_in numbering.now t) }
     ensures { OnOk result (cnf.new ≡ adding cnf.old (flips_in numbering.now t)) }
 {
-    for n in 0..numbering.query().lists().flips() {
+    for n in 0..lists_of(numbering).flips() {
         add_flip(alloc, cnf, numbering, t, n)?;
     }
     Ok(())

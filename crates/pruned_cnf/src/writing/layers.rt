@@ -5,7 +5,7 @@ ghost use Rattle.formula_parts.specs.Building.{Takes, adding};
 ghost use Rattle.pruned_cnf.specs.Groups.{layer_in, place_literal};
 
 use crate::numbering::Numbering;
-use crate::writing::literals::push_if_live;
+use crate::writing::literals::{lists_of, push_if_live};
 use edge_table::Edge;
 use rup_check::{Clause, Cnf};
 use std::alloc::{AllocError, Global};
@@ -18,7 +18,7 @@ fn is_there(alloc: Global, numbering: &Numbering, t: u32, e: Edge) -> Result<Cla
     ensures { IfOk result (λ clause. clause ≡ place_literal numbering.now t e true) }
 {
     let mut clause = Clause::make(alloc);
-    let n = numbering.query().lists().number(e);
+    let n = lists_of(numbering).number(e);
     push_if_live(&mut clause, numbering, t, n, true)?;
     Ok(clause)
 }
@@ -36,7 +36,7 @@ pub(crate) fn add_layer(
     requires takes { Takes cnf.old (layer_in numbering.now t edges.now.edges) }
     ensures { OnOk result (cnf.new ≡ adding cnf.old (layer_in numbering.now t edges.now.edges)) }
 {
-    let _lists = numbering.query().lists();
+    let _lists = lists_of(numbering);
     for i in 0..edges.len() {
         let clause = is_there(alloc, numbering, t, edges.edge_at(i))?;
         cnf.add(clause)?;

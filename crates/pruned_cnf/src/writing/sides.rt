@@ -1,17 +1,28 @@
 // The sides of a flip's quadrilateral, as literals.
-ghost use Rattle.std.specs.Prelude.{◌≡◌, ◌<◌, ◌++◌, Contains, OnOk, All};
+ghost use Rattle.std.specs.Prelude.{◌≡◌, ◌<◌, ◌++◌, length, Contains, OnOk, All};
 ghost use Rattle.std.specs.List.{flat_map};
 ghost use Rattle.edge_table.specs.Edges.{edge};
 ghost use Rattle.formula_law.specs.Formula.{sides};
 ghost use Rattle.formula_parts.specs.Building.{four};
-ghost use Rattle.formula_parts.specs.Lists.{pair_of};
+ghost use Rattle.formula_parts.specs.Lists.{edge_at, pair_of};
 ghost use Rattle.pruned_cnf.specs.Groups.{stays};
 
 use crate::numbering::Numbering;
-use crate::writing::literals::push_if_live;
+use crate::writing::literals::{lists_of, push_if_live};
 use edge_table::Edge;
 use rup_check::Clause;
 use std::alloc::AllocError;
+
+// Puts at the end that the segment with the number `n` is there before round `t` and after it, where it can be.
+fn push_stay(lits: &mut Clause, numbering: &Numbering, t: u32, n: u32) -> Result<(), AllocError>
+    requires round { t < numbering.now.rounds }
+    requires within { n < length numbering.now.frame.segments }
+    ensures { OnOk result (lits.new ≡ lits.old ++ stays numbering.now t (edge_at numbering.now.frame.segments n)) }
+{
+    push_if_live(lits, numbering, t, n, true)?;
+    push_if_live(lits, numbering, t + 1, n, true)?;
+    Ok(())
+}
 
 // Puts at the end that the segment of `a` and `b` is there before round `t` and after it, where it can be.
 fn push_side(
@@ -25,13 +36,9 @@ fn push_side(
     requires segment { Contains numbering.now.frame.segments (edge a b) }
     ensures { OnOk result (lits.new ≡ lits.old ++ stays numbering.now t (edge a b)) }
 {
+    let lists = lists_of(numbering);
     match Edge::of(a, b) {
-        Some(e) => {
-            let n = numbering.query().lists().number(e);
-            push_if_live(lits, numbering, t, n, true)?;
-            push_if_live(lits, numbering, t + 1, n, true)?;
-            Ok(())
-        },
+        Some(e) => push_stay(lits, numbering, t, lists.number(e)),
         None => unreachable!(),
     }
 }
@@ -71,7 +78,7 @@ pub(crate) fn push_sides(
     requires flip { Contains numbering.now.frame.flips (pair_of e f) }
     ensures { OnOk result (lits.new ≡ lits.old ++ flat_map (stays numbering.now t) (sides numbering.now.frame (pair_of e f))) }
 {
-    let _lists = numbering.query().lists();
+    let _lists = lists_of(numbering);
     let a = e.low();
     let b = f.low();
     if a < b {
