@@ -2,7 +2,7 @@
 use Rattle.std.proofs.Common.{◌≡◌, ◌≢◌, ◌⊎◌, inl, inr, ℕ, suc, ◌+◌, ◌-◌, ◌<◌, ◌≤◌, Bool, true, false, ◌&&◌, cond, Option, Some, None, List, [], ◌∷◌, ◌++◌, length, get_or, set, take, map, refl, sym, ap, ◌∙◌, subst, arith, append_assoc}
 use Rattle.std.specs.List.{filter}
 use Rattle.std.proofs.Math.ListN.{replicate}
-use Rattle.std.proofs.lemmas.List.{append-nil, map-append, get_or-replicate, length-replicate, get_or-set_same, get_or-set_other, length-set}
+use Rattle.std.proofs.lemmas.List.{append-nil, map-append, get_or-replicate, length-replicate, get_or-set_same, get_or-set_other, get_or_default, length-set}
 use Rattle.std.proofs.lemmas.List.Elements.{filter_more}
 use native.Mathlib.Decide.{dec_lt, ℕ_discrete}
 use Rattle.geo_orient.specs.declared.Point.{Point}
@@ -130,6 +130,14 @@ module _ (q : Query) (t : ℕ) (change : Change) (e : Edge) (old : Clause) where
 
   pub walk_ends : (now : Clause) → IsWalked q t change e old now None → now ≡ old ++ changing_flips q t change e
   walk_ends now W = W.so_far ∙ ap (λ gs. old ++ map lit gs) (sym (none_after test flips no_pair W.place W.within (λ j l r. apart j (W.next j l r))))
+
+-- ---- what is read at a place of a chain, and when the walk ends
+pub read_at : (chain : List (Option ℕ)) (n : ℕ) (at : Option ℕ) → n < length chain → at ≡ get_or chain n at → at ≡ get_or chain n nothing
+read_at chain n at h is = is ∙ get_or_default chain n at nothing h
+
+pub at_end : (at : Option ℕ) → ((n : ℕ) → at ≡ Some n → ⊥) → at ≡ None
+at_end None h = refl
+at_end (Some n) h = absurd (h n refl)
 
 -- how many flips a walk has before it
 abbrev pub left : ℕ → Option ℕ → ℕ

@@ -1,6 +1,7 @@
 -- The five groups of clauses of a pruned formula, one after the other.
 use Rattle.std.proofs.Common.{◌≡◌, ℕ, ◌+◌, ◌≤◌, List, [], ◌++◌, length, sym, ap, ◌∙◌, subst, arith}
 use Rattle.std.specs.List.{flat_map, range_with_len}
+use Rattle.edge_table.specs.declared.edge.Edge.{Edge}
 use Rattle.log_law.specs.Clauses.{Clause, Formula}
 use Rattle.formula_law.proofs.Fits.{pruned_fits}
 use Rattle.formula_parts.specs.Building.{adding, Takes}
@@ -8,15 +9,15 @@ use Rattle.formula_parts.proofs.Appending.{takes_first, next_takes, next_added}
 use Rattle.pruned_cnf.specs.Groups.{layer_in, crossings_in, flips_in, changes_in}
 use Rattle.pruned_cnf.specs.Queries.{Query, IsQuery, live_in, variables_in, clauses_in, formula_in}
 
-module _ (q : Query) where
+module _ (q : Query) (A B : List Edge) (k : ℕ) where
   abbrev pub start : Formula
   start = record { variables = variables_in q; clauses = [] }
 
   abbrev pub first : List Clause
-  first = layer_in q 0 q.from
+  first = layer_in q 0 A
 
   abbrev pub second : List Clause
-  second = layer_in q q.rounds q.to
+  second = layer_in q k B
 
   abbrev pub third : List Clause
   third = flat_map (crossings_in q) (range_with_len 0 (q.rounds + 1))
@@ -27,12 +28,15 @@ module _ (q : Query) where
   abbrev pub fifth : List Clause
   fifth = flat_map (changes_in q) (range_with_len 0 q.rounds)
 
-  module _ (Q : IsQuery q) (few : length (clauses_in q) ≤ 400_000) (made : Formula) (is : made ≡ start) where
+  module _ (Q : IsQuery q) (few : length (clauses_in q) ≤ 400_000) (from : A ≡ q.from) (to : B ≡ q.to) (rounds : k ≡ q.rounds) (made : Formula) (is : made ≡ start) where
+    all : first ++ second ++ third ++ fourth ++ fifth ≡ clauses_in q
+    all = λ i. layer_in q 0 (from i) ++ layer_in q (rounds i) (to i) ++ third ++ fourth ++ fifth
+
     takes_5 : Takes made (first ++ second ++ third ++ fourth ++ fifth)
-    takes_5 = subst (λ m. Takes m (clauses_in q)) (sym is) (record {
+    takes_5 = subst (Takes made) (sym all) (subst (λ m. Takes m (clauses_in q)) (sym is) (record {
       fit = pruned_fits q.points q.frame Q.frame q.from q.to q.rounds Q.from Q.to (live_in q);
       room = omega (arith, few);
-    })
+    }))
 
     takes_4 : Takes made (first ++ second ++ third ++ fourth)
     takes_4 = takes_first made (first ++ second ++ third ++ fourth) fifth takes_5
@@ -72,4 +76,4 @@ module _ (q : Query) where
             takes_fifth = next_takes made m4 (first ++ second ++ third ++ fourth) fifth takes_5 added_4
 
             pub all_written : (m5 : Formula) → m5 ≡ adding m4 fifth → m5 ≡ formula_in q
-            all_written m5 e5 = next_added made m4 m5 (first ++ second ++ third ++ fourth) fifth added_4 e5 ∙ ap (λ m. adding m (first ++ second ++ third ++ fourth ++ fifth)) is
+            all_written m5 e5 = next_added made m4 m5 (first ++ second ++ third ++ fourth) fifth added_4 e5 ∙ ap (adding made) all ∙ ap (λ m. adding m (clauses_in q)) is

@@ -52,10 +52,9 @@ fn add_all_changes(alloc: Global, cnf: &mut Cnf, numbering: &Numbering) -> Resul
     requires { Takes cnf.old (flat_map (changes_in numbering.now) (range_with_len 0 numbering.now.rounds)) }
     ensures { OnOk result (cnf.new ≡ adding cnf.old (flat_map (changes_in numbering.now) (range_with_len 0 numbering.now.rounds))) }
 {
-    let query = numbering.query();
-    let leaving = chain_of(alloc, query, Change::Leave)?;
-    let coming = chain_of(alloc, query, Change::Come)?;
-    for t in 0..query.rounds() {
+    let leaving = chain_of(alloc, numbering, Change::Leave)?;
+    let coming = chain_of(alloc, numbering, Change::Come)?;
+    for t in 0..numbering.query().rounds() {
         add_changes(alloc, cnf, numbering, &leaving, &coming, t)?;
     }
     Ok(())

@@ -5,7 +5,8 @@ ghost use Rattle.formula_parts.specs.Lists.{edge_at};
 ghost use Rattle.pruned_cnf.specs.Chains.{IsChain};
 ghost use Rattle.pruned_cnf.specs.Groups.{changed as changed_by};
 
-use crate::Query;
+use crate::numbering::Numbering;
+use crate::writing::literals::lists_of;
 use formula_parts::Lists;
 use std::alloc::{AllocError, Global};
 
@@ -44,10 +45,14 @@ fn no_flips(alloc: Global, count: u32) -> Result<Vec<Option<u32>>, AllocError>
 }
 
 // The chains of all flips, in time linear in their number. They are made from the last flip to the first.
-pub(crate) fn chain_of(alloc: Global, query: &Query, change: Change) -> Result<Chain, AllocError>
-    ensures { IfOk result (IsChain query.now.frame change) }
+pub(crate) fn chain_of(
+    alloc: Global,
+    numbering: &Numbering,
+    change: Change,
+) -> Result<Chain, AllocError>
+    ensures { IfOk result (IsChain numbering.now.frame change) }
 {
-    let lists = query.lists();
+    let lists = lists_of(numbering);
     let mut firsts = no_flips(alloc, lists.segments())?;
     let mut nexts = no_flips(alloc, lists.flips())?;
     for n in (0..lists.flips()).rev() {
