@@ -1,0 +1,8 @@
+use Rattle.std.proofs.Common.{◌+◌}
+use Rattle.std.specs.List.{range_with_len}
+use Rattle.formula_parts.proofs.Appending.{Upto}
+use Rattle.pruned_cnf.specs.Groups.{crossings_in}
+use Rattle.pruned_cnf.proofs.writing.add_all_crossings.Given as goal
+
+abbrev pub invariant-loop-t : goal.invariant-loop-t
+invariant-loop-t l = Upto (crossings_in l.numbering) (range_with_len 0 (l.numbering.rounds + 1)) l.initial.cnf l.t l.cnf
