@@ -1,1 +1,3 @@
+pub mod Crossed
 pub mod Queries
+pub mod Sizes

@@ -1,5 +1,5 @@
 -- What a pruned formula is asked of, and what is answered.
-use Rattle.std.specs.Prelude.{ℕ, ◌≤◌, Bool, Option, Some, None, cond, List, length, Contains}
+use Rattle.std.specs.Prelude.{ℕ, ◌+◌, ◌≤◌, Bool, ◌&&◌, Option, Some, None, cond, List, length, Contains}
 use Rattle.geo_orient.specs.declared.Point.{Point}
 use Rattle.edge_table.specs.declared.edge.Edge.{Edge}
 use Rattle.tri_theory.specs.Points.{ArePlaced}
@@ -35,6 +35,10 @@ live_in q = live_between q.points q.from q.to q.rounds
 -- the flips that can be made in a round
 abbrev pub is_live_flip_in : Query → ℕ → Pair → Bool
 is_live_flip_in q t g = is_live_flip q.frame (live_in q) t g
+
+-- the segment can be there before round t and after it
+abbrev pub stays_in : Query → ℕ → Edge → Bool
+stays_in q t s = live_in q t s && live_in q (t + 1) s
 
 -- the number of "segment e is there after t rounds"
 abbrev pub place_in : Query → ℕ → Edge → ℕ

@@ -1,10 +1,15 @@
 // What a pruned formula is asked of, with the digits of all crossings.
-ghost use Rattle.std.specs.Prelude.{◌≡◌, ◌<◌, ◌≤◌, length, IfOk};
+ghost use Rattle.std.specs.Prelude.{◌≡◌, ◌<◌, ◌≤◌, ◌+◌, ◌&&◌, length, Contains, All, IfOk};
+ghost use Rattle.std.specs.List.{list_all};
+ghost use Rattle.edge_table.specs.Edges.{edge};
+ghost use Rattle.formula_law.specs.Formula.{sides};
 ghost use Rattle.formula_law.specs.Frames.{IsFrame};
-ghost use Rattle.formula_parts.specs.Building.{pair_at};
-ghost use Rattle.formula_parts.specs.Lists.{edge_at};
-ghost use Rattle.pruned_cnf.specs.Queries.{IsQuery, IsMostDigits, live_in, is_live_flip_in};
+ghost use Rattle.formula_parts.specs.Building.{pair_at, four};
+ghost use Rattle.formula_parts.specs.Lists.{edge_at, pair_of};
+ghost use Rattle.pruned_cnf.specs.Queries.{IsQuery, IsMostDigits, live_in, is_live_flip_in, stays_in};
 
+use crate::counting::crossing_digits;
+use edge_table::Edge;
 use formula_parts::Lists;
 use std::alloc::{AllocError, Global};
 use std::marker::Model;
@@ -22,11 +27,27 @@ pub struct Query<'a> {
 }
 
 impl<'a> Model for Query<'a> {
-    ghost use Rattle.pruned_cnf.specs.Queries.{Query, IsQuery};
+    ghost use Rattle.pruned_cnf.specs.Queries.{Query};
+    ghost use Rattle.pruned_cnf.specs.Crossed.{IsHeld};
 
     ghost Value = { Query };
 
     ghost view = { λ q. record { points = q.from.points; frame = q.lists; from = q.from.edges; to = q.to.edges; rounds = q.rounds } };
+
+    ghost invariant = { λ q. IsHeld (record { points = q.from.points; frame = q.lists; from = q.from.edges; to = q.to.edges; rounds = q.rounds }) q.after_from.items q.before_to.items };
+}
+
+// The greatest of these numbers of digits, and 0 of none.
+fn most(digits: &[u32]) -> u32
+    requires { All (λ d. d ≤ 32) digits.now }
+    ensures most { All (λ d. d ≤ result) digits.now }
+    ensures few { result ≤ 32 }
+{
+    let mut most = 0;
+    for i in 0..digits.len() {
+        most = most.max(digits[i]);
+    }
+    most
 }
 
 impl<'a> Query<'a> {
@@ -44,14 +65,16 @@ impl<'a> Query<'a> {
         requires rounds { rounds ≤ 400_000 }
         ensures { IfOk result (λ q. q ≡ record { points = from.entry.now.points; frame = lists.entry.now; from = from.entry.now.edges; to = to.entry.now.edges; rounds = rounds }) }
     {
-        let _ = from.len();
+        let _ = (from.len(), to.len());
+        let after_from = crossing_digits(alloc, lists, from)?;
+        let before_to = crossing_digits(alloc, lists, to)?;
         Ok(Query {
             lists,
             from,
             to,
             rounds,
-            after_from: Vec::new(alloc),
-            before_to: Vec::new(alloc),
+            after_from,
+            before_to,
         })
     }
 
@@ -102,8 +125,50 @@ impl<'a> Query<'a> {
         requires within { n < length self.now.frame.flips }
         ensures { result ≡ is_live_flip_in self.now t (pair_at self.now.frame.flips n) }
     {
-        let _ = (t, n);
-        false
+        let (edge, image) = self.lists.flip(n);
+        self.is_live(t, edge)
+            && self.is_live(t + 1, image)
+            && self.are_sides_live(t, self.lists.segment(edge), self.lists.segment(image))
+    }
+
+    // Whether the segment of `a` and `b` can be there before round `t` and after it.
+    fn is_side_live(&self, t: u32, a: u32, b: u32) -> bool
+        requires round { t < self.now.rounds }
+        requires segment { Contains self.now.frame.segments (edge a b) }
+        ensures { result ≡ stays_in self.now t (edge a b) }
+    {
+        match Edge::of(a, b) {
+            Some(e) => {
+                let n = self.lists.number(e);
+                self.is_live(t, n) && self.is_live(t + 1, n)
+            }
+            None => unreachable!(),
+        }
+    }
+
+    // Whether the edges from each end of `e` to each end of `f` all can.
+    fn are_four_live(&self, t: u32, e: Edge, f: Edge) -> bool
+        requires round { t < self.now.rounds }
+        requires segments { All (λ s. Contains self.now.frame.segments s) (four e f) }
+        ensures { result ≡ list_all (stays_in self.now t) (four e f) }
+    {
+        self.is_side_live(t, e.low(), f.low())
+            && self.is_side_live(t, e.low(), f.high())
+            && self.is_side_live(t, e.high(), f.low())
+            && self.is_side_live(t, e.high(), f.high())
+    }
+
+    // Whether the four sides of the flip of `e` to `f` all can.
+    fn are_sides_live(&self, t: u32, e: Edge, f: Edge) -> bool
+        requires round { t < self.now.rounds }
+        requires flip { Contains self.now.frame.flips (pair_of e f) }
+        ensures { result ≡ list_all (stays_in self.now t) (sides self.now.frame (pair_of e f)) }
+    {
+        if e.low() < f.low() {
+            self.are_four_live(t, e, f)
+        } else {
+            self.are_four_live(t, f, e)
+        }
     }
 
     /// The greatest number of digits of crossings of a segment with the first triangulation. So after as many rounds all may be there.
@@ -111,7 +176,7 @@ impl<'a> Query<'a> {
         ensures most { IsMostDigits self.now self.now.from result }
         ensures few { result ≤ 32 }
     {
-        0
+        most(&self.after_from)
     }
 
     /// The same of the second triangulation.
@@ -119,6 +184,6 @@ impl<'a> Query<'a> {
         ensures most { IsMostDigits self.now self.now.to result }
         ensures few { result ≤ 32 }
     {
-        0
+        most(&self.before_to)
     }
 }
