@@ -1,5 +1,5 @@
 #!/usr/bin/env python3
-"""Prints a table of rows: for pairs of random triangulations the lower bound, what shows it, why it isn't higher, and the time.
+"""Prints a table of rows: for pairs of random triangulations the lower bound, the number of clauses of the pruned formula of as many rounds, what shows the bound, why it isn't higher, and the time.
 
 Usage: bench/pairs/run.py [BUDGET [POINTS..]], with 50000 for three pairs each of 8, 10, 12, 14, 16, 18, 20, 23, 26 and 30 points where no words are given.
 Needs Linux, and `rt` on the path. Works on a copy of the crates outside the checkout, where the program is proved first.
@@ -18,7 +18,7 @@ import tempfile
 HERE = pathlib.Path(__file__).resolve().parent
 ROOT = HERE.parent.parent
 NAME = "pair_table"
-USES = "geo_orient edge_table tri_theory crossing_law tri_check side_table flip_mesh log_law formula_law rup_check sat_state sat_search assignment_law bound_law cross_bound flip_cnf pair_rows"
+USES = "geo_orient edge_table tri_theory crossing_law tri_check side_table flip_mesh log_law formula_law rup_check sat_state sat_search assignment_law bound_law cross_bound formula_parts pruned_cnf flip_cnf pair_rows"
 SIZES = [8, 10, 12, 14, 16, 18, 20, 23, 26, 30]
 PAIRS = 3
 SIDE = 1_000

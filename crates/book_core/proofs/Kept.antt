@@ -8,6 +8,7 @@ use Rattle.tri_check.specs.Problems.{Problem, IsProblem}
 use Rattle.plan_law.specs.Books as law
 use Rattle.plan_law.specs.Books.{PairRow, IsTrueRow, State, after_entry, MayBeOffered, IsLegal, IsBook, bound}
 use Rattle.plan_law.proofs.Proved.{books_bound_plans}
+use Rattle.pair_rows.specs.Versions.{Pruned}
 use Rattle.pair_rows.proofs.RowLaws.{justified_rows_are_true}
 use Rattle.book_core.specs.declared.entry.Entry.{Entry}
 use Rattle.book_core.specs.declared.entry.Entry.TheVariants.{Move, Swap, Row, Pack}
@@ -16,7 +17,7 @@ use Rattle.book_core.specs.HeldBooks.{HeldBook, book_of, now_of, IsOffer, IsBelo
 use Rattle.book_core.proofs.Following.{instance_of}
 
 true_row : (points : List Point) (inputs : List (List Edge)) → IsProblem points inputs → (r : PairRow Shown) → IsJustifiedRow points inputs r → IsTrueRow points inputs r
-true_row points inputs I r (frame, F, j) = (justified_rows_are_true points inputs frame (shown_row r) I F j).0
+true_row points inputs I r (frame, F, j) = (justified_rows_are_true Pruned points inputs frame (shown_row r) I F j).0
 
 pub says_true : (problem : Problem) (entry : Entry) → IsProblem problem.points problem.inputs → IsOffer problem entry → SaysTrue problem entry
 says_true problem (Move turn edges) I m = tt

@@ -1,14 +1,11 @@
 -- Formulas to which clauses are added group by group.
-use Rattle.std.specs.Prelude.{ℕ, ◌+◌, ◌≤◌, true, false, List, [], ◌∷◌, ◌++◌, length, map, filter, slice_index_or, All}
-use Rattle.geo_orient.specs.declared.Point.{Point}
-use Rattle.tri_theory.specs.Points.{ArePlaced}
+use Rattle.std.specs.Prelude.{ℕ, ◌+◌, true, false, List, [], ◌∷◌, map, filter}
 use Rattle.edge_table.specs.declared.edge.Edge.{Edge}
-use Rattle.edge_table.specs.Edges.{edge, is_edge, is_member}
+use Rattle.edge_table.specs.Edges.{is_edge, is_member}
 use Rattle.log_law.specs.declared.Lit.{Lit}
-use Rattle.log_law.specs.Clauses.{Clause, Formula, IsClause}
-use Rattle.formula_law.specs.Frames.{Pair, Frame, IsFrame}
+use Rattle.log_law.specs.Clauses.{Clause}
+use Rattle.formula_law.specs.Frames.{Pair, Frame}
 use Rattle.formula_law.specs.Formula.{literal, there, made, demands, leave_clause, come_clause}
-use Rattle.formula_parts.specs.Lists.{no_edge}
 
 -- s is there before round t and after it
 abbrev pub stays : Frame → ℕ → Edge → List Lit

@@ -1,12 +1,12 @@
 -- A lower bound begins as the bound by crossings, and each formula that is refuted raises it. None is raised without end.
-use Rattle.std.proofs.Common.{◌≡◌, ◌∙◌, sym, ap, refl, subst, ℕ, ◌+◌, ◌*◌, ◌^◌, ◌<◌, ◌≤◌, Bool, List, [], length, Contains, Some, slice_get, arith}
-use Rattle.std.proofs.Math.Nat.{mul-le-mul_right}
+use Rattle.std.proofs.Common.{◌≡◌, ◌≢◌, ◌∙◌, sym, ap, refl, subst, ℕ, ◌+◌, ◌^◌, ◌<◌, ◌≤◌, Bool, List, [], length, get_or, Contains, Some, slice_get, arith}
+use Rattle.std.specs.Prelude.{AllPairs}
 use Rattle.std.proofs.lemmas.Option.{get_or_from_slice_get}
 use Rattle.geo_orient.specs.declared.Point.{Point}
 use Rattle.edge_table.specs.declared.edge.Edge.{Edge}
-use Rattle.edge_table.specs.Edges.{edge}
-use Rattle.tri_theory.specs.Points.{ArePlaced, IsLeft}
-use Rattle.tri_theory.specs.Triangulations.{IsTriangulation, IsSegment}
+use Rattle.edge_table.specs.Edges.{IsBefore, IsAscending}
+use Rattle.edge_table.proofs.Ascending.{not_before_itself}
+use Rattle.tri_theory.specs.Triangulations.{IsTriangulation}
 use Rattle.tri_theory.specs.Crossings.{crossings}
 use Rattle.crossing_law.specs.Digits.{digits}
 use Rattle.crossing_law.proofs.Counts.{digits_at_most}
@@ -14,9 +14,8 @@ use Rattle.bound_law.specs.Bounds.{input_at}
 use Rattle.log_law.specs.Clauses.{Formula, IsModel}
 use Rattle.log_law.specs.Logs.{Line}
 use Rattle.sat_search.specs.Answers.{IsRefutation}
-use Rattle.formula_law.specs.Frames.{Frame, IsFrame}
-use Rattle.formula_law.specs.Formula.{clause_count}
-use Rattle.flip_cnf.specs.HeldFrames.{HeldFrame, Listed, Many, IsHeldFrame, IsBuilt, Satisfies}
+use Rattle.log_law.proofs.Lists.{pairs_weaker}
+use Rattle.flip_cnf.specs.HeldFrames.{HeldFrame, Listed, Many, IsPrunedBuilt, SatisfiesPruned, AreRounds}
 use Rattle.cross_bound.specs.declared.best.Side.{Side}
 use Rattle.cross_bound.specs.declared.best.Side.TheVariants.{First, Second}
 use Rattle.cross_bound.specs.declared.bound.CrossBound.{CrossBound}
@@ -27,33 +26,21 @@ use Rattle.cross_bound.proofs.Bounds.{found_in}
 use Rattle.crossing_law.proofs.Fewness.{crossings_fit}
 use Rattle.pair_rows.specs.declared.row.Evidence.{Evidence}
 use Rattle.pair_rows.specs.declared.row.Evidence.TheVariants.{Crosses, Refuted}
-use Rattle.pair_rows.specs.Rows.{OfBuilt, least_rounds}
+use Rattle.pair_rows.specs.Versions.{Pruned}
+use Rattle.pair_rows.specs.Rows.{OfBuilt, AreMet, least_rounds}
 use Rattle.pair_rows.specs.Tries.{IsBound}
 
--- ---- a formula that is built has few rounds
+-- a model of the formula that is built is one of what was asked
+pub models_satisfy : (points : List Point) (frame : HeldFrame) (A B : List Edge) (k : ℕ) (built : Formula) (truth : ℕ → Bool) → IsPrunedBuilt points A B k frame built → IsModel truth built.clauses → SatisfiesPruned points A B k frame truth
+models_satisfy points (Listed F) A B k built truth is model = subst (λ (f : Formula). IsModel truth f.clauses) is.1 model
+models_satisfy points (Many n) A B k built truth is model = is
 
-some_segment : (points : List Point) (A : List Edge) → ArePlaced points → IsTriangulation points A → (e : Edge) × IsSegment points e
-some_segment points A P N = by_spread P.spread
-  where
-    by_spread : ((a b c : ℕ) × (a < length points) × (b < length points) × (c < length points) × IsLeft points a b c) → (e : Edge) × IsSegment points e
-    by_spread (a, b, c, l, m, n, turns) = let (q, h) = N.ends a l in (edge a q, N.segments (edge a q) h)
+-- no round of edges in edge order names one twice
+pub ascending_differ : (es : List Edge) → IsAscending es → AllPairs ◌≢◌ es
+ascending_differ es = pairs_weaker IsBefore ◌≢◌ es (λ e f before same. not_before_itself f (subst (λ x. IsBefore x f) same before))
 
-listed_segment : (points : List Point) (F : Frame) → IsFrame points F → (e : Edge) × IsSegment points e → 1 ≤ length F.segments
-listed_segment points F I (e, s) = let (k, l, h) = (I.segments e).1 s in omega arith
-
-few_rounds : (F : Frame) (k : ℕ) → 1 ≤ length F.segments → clause_count F k ≤ 400_000 → k ≤ 200_000
-few_rounds F k some few =
-    let m : 2 * k ≤ (12 * length F.flips + 2 * length F.segments) * k = mul-le-mul_right {m = 2} {n = 12 * length F.flips + 2 * length F.segments} k (omega (arith, some)) in
-    omega (arith, m, few)
-
-pub built_rounds : (points : List Point) (frame : HeldFrame) (A B C : List Edge) (k : ℕ) (built : Formula) → ArePlaced points → IsTriangulation points C → IsHeldFrame points frame → IsBuilt frame A B k built → k ≤ 200_000
-built_rounds points (Listed F) A B C k built P N held is = few_rounds F k (listed_segment points F held.1 (some_segment points C P N)) is.0
-built_rounds points (Many n) A B C k built P N held is = absurd is
-
--- a model of it is one of what was asked
-pub models_satisfy : (frame : HeldFrame) (A B : List Edge) (k : ℕ) (built : Formula) (truth : ℕ → Bool) → IsBuilt frame A B k built → IsModel truth built.clauses → Satisfies frame A B k truth
-models_satisfy (Listed F) A B k built truth is model = subst (λ (f : Formula). IsModel truth f.clauses) is.1 model
-models_satisfy (Many n) A B k built truth is model = is
+pub rounds_are_met : (points : List Point) (A B : List Edge) (k : ℕ) (rounds : List (List Edge)) → AreRounds points A B k rounds → AreMet points A B k rounds
+rounds_are_met points A B k rounds are = record { count = are.count; distinct = λ n d l. ascending_differ (get_or rounds n d) (are.ascending n d l); schedule = are.schedule }
 
 -- ---- the bound by crossings
 
@@ -106,7 +93,7 @@ module _ (points : List Point) (frame : HeldFrame) (A B : List Edge) (budget : �
     begins = (differ, greatest, counted, long);
   }
 
-  pub bound_rises : (lower : ℕ) (evidence : Evidence) (log : List Line) → IsBound points frame A B budget lower evidence → OfBuilt points frame A B lower (λ built. IsRefutation built budget log) → IsBound points frame A B budget (lower + 1) (Refuted lower log)
+  pub bound_rises : (lower : ℕ) (evidence : Evidence) (log : List Line) → IsBound points frame A B budget lower evidence → OfBuilt Pruned points frame A B lower (λ built. IsRefutation built budget log) → IsBound points frame A B budget (lower + 1) (Refuted lower log)
   bound_rises lower evidence log H (built, is, refutes) = record {
     differ = H.differ;
     shown = (refl, (built, is, refutes.refutes));

@@ -1,4 +1,4 @@
--- What a try of a number of rounds comes to, and what tries lead to.
+-- What a try of a number of rounds comes to with the pruned formula, and what tries lead to.
 use Rattle.std.specs.Prelude.{◌≡◌, ◌≢◌, ℕ, ◌≤◌, List}
 use Rattle.geo_orient.specs.declared.Point.{Point}
 use Rattle.edge_table.specs.declared.edge.Edge.{Edge}
@@ -11,18 +11,19 @@ use Rattle.pair_rows.specs.declared.proving.Tried.{Tried}
 use Rattle.pair_rows.specs.declared.proving.Tried.TheVariants.{Refuted, Ended}
 use Rattle.pair_rows.specs.declared.row.Evidence.{Evidence}
 use Rattle.pair_rows.specs.declared.row.Row.{Row}
-use Rattle.pair_rows.specs.Rows.{OfBuilt, IsEvidence, IsEnd, EarnsEvidence, EarnsEnd, least_rounds, BeginsAtCrossBound}
+use Rattle.pair_rows.specs.Versions.{Pruned}
+use Rattle.pair_rows.specs.Rows.{OfBuilt, IsEvidence, IsEnd, EarnsEvidence, EarnsEnd, MetAscends, least_rounds, BeginsAtCrossBound}
 
 -- a log that refutes the formula of k rounds within the budget, or an end that a row with the lower bound k earns
 abbrev pub IsTried : List Point → HeldFrame → List Edge → List Edge → ℕ → ℕ → Tried → Type 0
-IsTried points frame A B budget k (Refuted log) = OfBuilt points frame A B k (λ built. IsRefutation built budget log)
-IsTried points frame A B budget k (Ended end) = IsEnd points frame A B k end × EarnsEnd points frame A B budget end
+IsTried points frame A B budget k (Refuted log) = OfBuilt Pruned points frame A B k (λ built. IsRefutation built budget log)
+IsTried points frame A B budget k (Ended end) = IsEnd Pruned points frame A B k end × EarnsEnd Pruned points frame A B budget end × MetAscends end
 
 -- a lower bound of two that differ, which its evidence shows and earns, from the bound by crossings up
 pub record IsBound (points : List Point) (frame : HeldFrame) (A B : List Edge) (budget lower : ℕ) (evidence : Evidence) : Type 0 where
   pub differ : A ≢ B
-  pub shown : IsEvidence points frame A B lower evidence
-  pub earned : EarnsEvidence points frame A B budget evidence
+  pub shown : IsEvidence Pruned points frame A B lower evidence
+  pub earned : EarnsEvidence Pruned points frame A B budget evidence
   pub least : (bound : CrossBound) → IsCrossBound points A B bound → least_rounds bound ≤ lower
   pub begins : BeginsAtCrossBound points A B lower evidence
 
@@ -31,5 +32,6 @@ pub record IsClimbed (points : List Point) (inputs : List (List Edge)) (frame : 
   pub first : row.i ≡ i
   pub second : row.j ≡ j
   pub bound : IsBound points frame (input_at inputs i) (input_at inputs j) budget row.lower row.evidence
-  pub end : IsEnd points frame (input_at inputs i) (input_at inputs j) row.lower row.end
-  pub earned : EarnsEnd points frame (input_at inputs i) (input_at inputs j) budget row.end
+  pub end : IsEnd Pruned points frame (input_at inputs i) (input_at inputs j) row.lower row.end
+  pub earned : EarnsEnd Pruned points frame (input_at inputs i) (input_at inputs j) budget row.end
+  pub ascends : MetAscends row.end

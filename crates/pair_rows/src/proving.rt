@@ -1,9 +1,10 @@
-// The row of two inputs: from the bound by crossings up, refuting one number of rounds after the other.
+// The row of two inputs: from the bound by crossings up, refuting the pruned formula of one number of rounds after the other.
 ghost use Rattle.std.specs.Prelude.{◌≡◌, ◌<◌, ◌≤◌, length, IfOk};
 ghost use Rattle.bound_law.specs.Bounds.{input_at};
 ghost use Rattle.flip_cnf.specs.HeldFrames.{IsHeldFrame};
-ghost use Rattle.pair_rows.specs.Rows.{IsEarned, IsFromCrossBound, IsTrue, MetIsExact};
+ghost use Rattle.pair_rows.specs.Rows.{IsEarned, IsFromCrossBound, IsTrue, MetIsExact, MetAscends};
 ghost use Rattle.pair_rows.specs.Tries.{IsTried, IsBound, IsClimbed};
+ghost use Rattle.pair_rows.specs.Versions.{Pruned};
 
 use crate::{End, Evidence, Row};
 use cross_bound::{CrossBound, cross_bound};
@@ -38,7 +39,7 @@ fn try_rounds(
     requires budget { budget ≤ 1_000_000 }
     ensures { IfOk result (IsTried inst.now.points frame.now (input_at inst.now.inputs i) (input_at inst.now.inputs j) budget k) }
 {
-    let cnf = match frame.build(inst, i, j, k) {
+    let cnf = match frame.build2(inst, i, j, k) {
         Ok(cnf) => cnf,
         Err(BuildFault::ManyPoints(n)) => return Ok(Tried::Ended(End::ManyPoints(n))),
         Err(BuildFault::TooLarge(clauses)) => {
@@ -47,7 +48,7 @@ fn try_rounds(
         Err(BuildFault::OutOfMemory) => return Err(AllocError),
     };
     match solve(alloc, &cnf, budget)? {
-        Answer::Sat(truth) => Ok(Tried::Ended(End::Met(frame.decode(inst, i, j, k, &truth)?))),
+        Answer::Sat(truth) => Ok(Tried::Ended(End::Met(frame.decode2(inst, i, j, k, &truth)?))),
         Answer::Refuted(log) => Ok(Tried::Refuted(log)),
         Answer::Spent(log) => Ok(Tried::Ended(End::Spent { k, log })),
     }
@@ -100,7 +101,7 @@ fn climb(
     }
 }
 
-/// The row of two inputs. Equal inputs have the lower bound 0. Others begin at the bound by crossings, which is raised by 1 with each formula that is refuted, until rounds are found, a search costs more than the budget, or there is no formula.
+/// The row of two inputs. Equal inputs have the lower bound 0. Others begin at the bound by crossings, which is raised by 1 with each pruned formula that is refuted, until rounds are found, a search costs more than the budget, or there is no formula.
 ///
 /// The budget is of literals and hints of one log, with 3 for each of its lines. The time is that of the bound, of the formulas that are built, and of their searches.
 pub fn prove_pair(
@@ -117,10 +118,11 @@ pub fn prove_pair(
     requires budget { budget ≤ 1_000_000 }
     ensures first { IfOk result (λ row. row.i ≡ i) }
     ensures second { IfOk result (λ row. row.j ≡ j) }
-    ensures earned { IfOk result (IsEarned inst.now.points inst.now.inputs frame.now budget) }
+    ensures earned { IfOk result (IsEarned Pruned inst.now.points inst.now.inputs frame.now budget) }
     ensures begins { IfOk result (IsFromCrossBound inst.now.points inst.now.inputs) }
     ensures is_true { IfOk result (IsTrue inst.now.points inst.now.inputs) }
     ensures exact { IfOk result (MetIsExact inst.now.points inst.now.inputs) }
+    ensures ascends { IfOk result (λ row. MetAscends row.end) }
 {
     let _ = inst.count();
     match cross_bound(alloc, inst.input(i), inst.input(j))? {

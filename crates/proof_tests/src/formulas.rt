@@ -2,8 +2,8 @@
 ghost use Rattle.std.specs.Prelude.{◌≡◌, ◌≤◌, length, IsTrue};
 ghost use Rattle.log_law.specs.Clauses.{IsModel, IsSatisfied, listed};
 
-use flip_cnf::*;
 use edge_table::{Edge, Rounds};
+use flip_cnf::*;
 use geo_orient::Point;
 use rup_check::{Clause, Cnf, Truth};
 use std::alloc::{AllocError, Global};

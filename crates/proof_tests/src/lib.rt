@@ -6,4 +6,10 @@ mod assignments;
 #[cfg(test)]
 mod formulas;
 #[cfg(test)]
+mod polygons;
+#[cfg(test)]
+mod pruned_builds;
+#[cfg(test)]
+mod pruned_sizes;
+#[cfg(test)]
 mod rows;

@@ -1,92 +1,17 @@
 // Rows of pairs of fans of small polygons, with each evidence and each end.
 ghost use Rattle.std.specs.Prelude.{◌≡◌, ◌<◌, ◌≤◌, length};
 
-use pair_rows::*;
+use crate::polygons::{expect_three, hexagon, parabola, pentagon, polygon, square};
 use cross_bound::Side;
 use edge_table::Edge;
 use flip_cnf::Frame;
-use geo_orient::Point;
+use pair_rows::*;
 use rup_check::check;
 use sat_search::{Answer, solve};
 use std::alloc::{AllocError, Global};
 use std::process::Abort;
-use std::sync::Arc;
 use std::test::Fail;
-use tri_check::{Instance, PairList, PointList, RawInputs, RawInstance, RawPair, Uid};
-
-fn point(x: i64, y: i64) -> Point {
-    Point { x, y }
-}
-
-// The edges at one point of a polygon.
-fn fan(alloc: Global, count: u32, at: u32) -> Result<PairList, AllocError> {
-    let mut pairs = PairList::make(alloc);
-    for other in 0..count {
-        if other != at {
-            pairs.push(RawPair {
-                a: i64::from(at),
-                b: i64::from(other),
-            })?;
-        }
-    }
-    Ok(pairs)
-}
-
-// A convex polygon with the fans at its points 0, 1 and 0 again as its inputs.
-fn polygon(alloc: Global, corners: &[Point]) -> Result<Option<Arc<Instance>>, AllocError> {
-    let mut points = PointList::make(alloc);
-    for p in corners {
-        points.push(*p)?;
-    }
-    let count = corners.len().min(100) as u32;
-    let mut inputs = RawInputs::make(alloc);
-    inputs.push(fan(alloc, count, 0)?)?;
-    inputs.push(fan(alloc, count, 1)?)?;
-    inputs.push(fan(alloc, count, 0)?)?;
-    let raw = RawInstance::unweighted(alloc, Uid::of(alloc, "polygon")?, points, inputs)?;
-    Ok(Instance::check(alloc, raw).ok())
-}
-
-// Points of a parabola.
-fn parabola(alloc: Global, count: u32) -> Result<Option<Arc<Instance>>, AllocError> {
-    let mut corners = Vec::new(alloc);
-    for i in 0..count {
-        let x = i64::from(i % 100);
-        corners.push(point(x, x * x))?;
-    }
-    polygon(alloc, &corners)
-}
-
-fn square() -> [Point; 4] {
-    [point(0, 0), point(2, 0), point(2, 2), point(0, 2)]
-}
-
-fn pentagon() -> [Point; 5] {
-    [
-        point(0, 0),
-        point(4, 0),
-        point(5, 3),
-        point(2, 5),
-        point(-1, 3),
-    ]
-}
-
-fn hexagon() -> [Point; 6] {
-    [
-        point(5, 0),
-        point(3, 4),
-        point(-3, 4),
-        point(-5, 0),
-        point(-3, -4),
-        point(3, -4),
-    ]
-}
-
-fn expect_three(rt: &impl Abort, inst: &Instance)
-    ensures { length inst.now.inputs ≡ 3 }
-{
-    assert!(rt; inst.inputs() == 3);
-}
+use tri_check::Instance;
 
 // The row of input 0 and another one.
 fn row(
@@ -139,14 +64,7 @@ fn spent(row: &Row) -> Option<(u32, usize)> {
     }
 }
 
-fn too_large(row: &Row) -> Option<(u32, u64)> {
-    match &row.end {
-        End::TooLarge { k, clauses } => Some((*k, *clauses)),
-        _ => None,
-    }
-}
-
-// Whether the formula of so many rounds between the first two inputs is refuted, by a log that the checker accepts. It isn't where it has a model, and there is no answer where the budget is spent.
+// Whether the pruned formula of so many rounds between the first two inputs is refuted, by a log that the checker accepts. It isn't where it has a model, and there is no answer where the budget is spent.
 fn is_refuted(
     rt: &impl Abort,
     alloc: Global,
@@ -157,7 +75,7 @@ fn is_refuted(
 {
     expect_three(rt, inst);
     let frame = Frame::of(alloc, inst)?;
-    let cnf = match frame.build(inst, 0, 1, k) {
+    let cnf = match frame.build2(inst, 0, 1, k) {
         Ok(cnf) => cnf,
         Err(_) => return Ok(None),
     };
@@ -232,20 +150,20 @@ fn a_small_budget_is_spent_on_a_hexagon(rt: HostRuntime) -> Result<(), Fail> {
 }
 
 #[test]
-fn the_formula_of_twenty_points_is_too_large(rt: HostRuntime) -> Result<(), Fail> {
+fn a_small_budget_is_spent_on_twenty_points(rt: HostRuntime) -> Result<(), Fail> {
     let inst = parabola(rt.alloc(), 20)?.expect(&rt, "20 points");
-    let row = row(&rt, rt.alloc(), &inst, 1, 50_000)?;
+    let row = row(&rt, rt.alloc(), &inst, 1, 1)?;
     assert!(rt; crosses(&rt, &row, 1, 5, 17));
-    assert_eq!(rt; too_large(&row), Some((5, 612_750)));
+    assert_eq!(rt; spent(&row), Some((5, 1)));
     Ok(())
 }
 
 #[test]
-fn the_formula_of_sixty_four_points_is_counted(rt: HostRuntime) -> Result<(), Fail> {
+fn a_small_budget_is_spent_on_sixty_four_points(rt: HostRuntime) -> Result<(), Fail> {
     let inst = parabola(rt.alloc(), 64)?.expect(&rt, "64 points");
-    let row = row(&rt, rt.alloc(), &inst, 1, 50_000)?;
+    let row = row(&rt, rt.alloc(), &inst, 1, 1)?;
     assert!(rt; crosses(&rt, &row, 1, 6, 61));
-    assert_eq!(rt; too_large(&row), Some((6, 95_970_000)));
+    assert_eq!(rt; spent(&row), Some((6, 1)));
     Ok(())
 }
 

@@ -1,6 +1,6 @@
 // Lines of numbers and of logs once, with ample memory.
-use line_text::*;
 use host_io::Bytes;
+use line_text::*;
 use log_law::Lit;
 use std::alloc::AllocError;
 

@@ -1,7 +1,6 @@
 // The certificate of a square, and the first fault of certificates and solutions that differ from it in a little.
 ghost use Rattle.std.specs.Prelude.{◌≡◌, length, IfOk};
 
-use verify_core::*;
 use cert_text::read_cert;
 use edge_table::{Edge, EdgeSeq, Rounds, RoundsList};
 use geo_orient::Point;
@@ -15,6 +14,7 @@ use std::test::Fail;
 use tri_check::{
     CheckFault, Instance, PairList, PointList, RawInputs, RawInstance, RawPair, Uid, WeightList,
 };
+use verify_core::*;
 
 // A certificate of the two triangulations of a square.
 const LINES: [&str; 14] = [
@@ -117,8 +117,8 @@ fn answer(
 ) -> Result<Result<Yes, VerifyFault>, AllocError> {
     let text = edited(alloc, first, second)?;
     match read_cert(alloc, text.as_bytes()) {
-        Ok(cert) if cert.version == 1 => Ok(verify(alloc, inst, s, &cert)),
-        _ => Err(AllocError),
+        Ok(cert) => Ok(verify(alloc, inst, s, &cert)),
+        Err(_) => Err(AllocError),
     }
 }
 
@@ -139,6 +139,53 @@ fn the_square_is_shown(rt: HostRuntime) -> Result<(), Fail> {
     ];
     for (edit, expected) in rows {
         let got = answer(rt.alloc(), &inst, &s, edit, NO_EDIT)?;
+        assert_eq!(rt; got, expected);
+    }
+    Ok(())
+}
+
+// The first lines of certificates of later versions.
+const SECOND: Edit<'static> = (1, "flipcentre-certificate 2\n");
+
+const THIRD: Edit<'static> = (1, "flipcentre-certificate 3\n");
+
+#[test]
+fn the_square_is_shown_in_each_version(rt: HostRuntime) -> Result<(), Fail> {
+    let inst = square(rt.alloc(), [1, 1])?;
+    let s = solution(rt.alloc(), "Q", 2, Some(edge(&rt, 0, 2)))?;
+    let shown = Ok(Yes { total: 1, bound: 1 });
+    let versions: [(Edit, Edit); 3] = [
+        (NO_EDIT, NO_EDIT),
+        (SECOND, NO_EDIT),
+        (THIRD, (3, "inputs 2 2\n")),
+    ];
+    for (version, counts) in versions {
+        let got = answer(rt.alloc(), &inst, &s, version, counts)?;
+        assert_eq!(rt; got, shown);
+    }
+    Ok(())
+}
+
+// Evidence of the formula of no rounds: a log that refutes the whole one, which has 13 clauses, and a log that refutes the pruned one, which has 10.
+const WHOLE: Edit<'static> = (10, "refuted 0 1\n14 0 2 8 0\n");
+
+const PRUNED: Edit<'static> = (10, "refuted 0 1\n11 0 2 0\n");
+
+#[test]
+fn a_log_is_one_of_the_formula_of_its_version(rt: HostRuntime) -> Result<(), Fail> {
+    let inst = square(rt.alloc(), [1, 1])?;
+    let s = solution(rt.alloc(), "Q", 2, Some(edge(&rt, 0, 2)))?;
+    let shown = Ok(Yes { total: 1, bound: 1 });
+    let other = RowWhy::Log(LogFault::BadId(0));
+    let refused = Err(VerifyFault::No(No::RowWrong(0, 1, other)));
+    let rows: [(Edit, Edit, Result<Yes, VerifyFault>); 4] = [
+        (NO_EDIT, WHOLE, shown),
+        (NO_EDIT, PRUNED, refused),
+        (SECOND, WHOLE, refused),
+        (SECOND, PRUNED, shown),
+    ];
+    for (version, log, expected) in rows {
+        let got = answer(rt.alloc(), &inst, &s, version, log)?;
         assert_eq!(rt; got, expected);
     }
     Ok(())

@@ -15,8 +15,7 @@ use Rattle.log_law.specs.Faults.{steps_fault}
 use Rattle.log_law.specs.declared.LogFault.{LogFault}
 use Rattle.log_law.proofs.Proved.{faultless_steps_follow}
 use Rattle.log_law.proofs.Lists.{take_from}
-use Rattle.formula_law.proofs.Proved.{frames_are_one}
-use Rattle.flip_cnf.specs.HeldFrames.{HeldFrame, Listed, Many, IsHeldFrame}
+use Rattle.flip_cnf.specs.HeldFrames.{HeldFrame, IsHeldFrame}
 use Rattle.replay.specs.declared.fault.ScoreFault.TheVariants as score
 use Rattle.replay.specs.Scores.{AreAllDistinct, IsScoreFault}
 use Rattle.replay.proofs.Unique.{no_fault}
@@ -37,7 +36,9 @@ use Rattle.verify_core.specs.Formulas.{large}
 use Rattle.verify_core.specs.RowFaults.{IsSoundEnd, IsEndFault, IsSoundRow, IsFirstWhy}
 use Rattle.verify_core.specs.Faults.{AreNamed, IsNameFault, IsPlanFault, IsRowRefusal, pair_before, AreSoundTo, IsFirstRowFault, IsWrongPlace, IsFirstWrongPlace, bound_by, Holds, IsFirstNo, number_of, OnNo, IsVerified, IsShown}
 use Rattle.verify_core.proofs.Formulas.{input_triangulated}
-use Rattle.verify_core.proofs.RowParts.{one_formula, pair_clear, evidence_clear, lower_clear}
+use Rattle.pair_rows.specs.Versions.{formula_kind}
+use Rattle.pair_rows.proofs.Formulas.{one_held, one_formula}
+use Rattle.verify_core.proofs.RowParts.{pair_clear, evidence_clear, lower_clear}
 
 following_clear : (f : Formula) (log : List Line) (fault : LogFault) → AllFollow f log → steps_fault f log ≡ Some fault → ⊥
 following_clear f log fault R e = let none = (faultless_steps_follow f log).1 R in absurd (none_some (sym none ∙ e))
@@ -66,7 +67,7 @@ module _ (version : ℕ) (points : List Point) (frame : HeldFrame) (P : ArePlace
   end_clear (Spent k log) is (EdgeNotThere e) h = h
   end_clear (Spent k log) is (CountWrong a b) h = h
   end_clear (Spent k log) is NoCnf h = h.1 is.1.0 is.1.1
-  end_clear (Spent k log) is (Log f) h = following_clear h.1.0 log f (subst (λ g. AllFollow g log) (one_formula version frame A B k is.1.0 h.1.0 is.1.1 h.1.1) is.1.2) h.1.2
+  end_clear (Spent k log) is (Log f) h = following_clear h.1.0 log f (subst (λ g. AllFollow g log) (one_formula (formula_kind version) points frame A B k is.1.0 h.1.0 is.1.1 h.1.1) is.1.2) h.1.2
   end_clear (Spent k log) is (LowerWrong a b) h = h
   end_clear (Spent k log) is (MetRound f) h = h
   end_clear (Spent k log) is (MetEnd e) h = h
@@ -211,13 +212,6 @@ module _ (problem : Problem) (frame : HeldFrame) (is : IsProblem problem.points 
 
           pub on_bound : IsAssignment (sum problem.weights) c.perm → (said bound : ℕ) → Holds problem frame s c (BoundWrong said bound) → OnNo problem s c (verify.No (BoundWrong said bound))
           on_bound assigned said bound h = (frame, record { frame_held = held; holds = h; first = λ other l g. clear 10 (λ _. named.solution_uid) (λ _. named.certificate_uid) (λ _. (named.lists, named.inputs)) (λ _. named.copies) (λ _. (plan_clear centre plan distinct).0) (λ _. (plan_clear centre plan distinct).1) (λ _. same) (λ _. rows) (λ _. assigned) (λ l. absurd (omega (arith, l))) other l g })
-
--- the points have one frame
-one_held : (points : List Point) (held other : HeldFrame) → IsHeldFrame points held → IsHeldFrame points other → held ≡ other
-one_held points (Listed F) (Listed G) (few, is) (low, has) = let one = (frames_are_one points).2 in ap Listed (one F is ∙ sym (one G has))
-one_held points (Listed F) (Many n) (few, is) (many, has) = absurd (omega (arith, few, many))
-one_held points (Many n) (Listed G) (many, is) (few, has) = absurd (omega (arith, few, many))
-one_held points (Many n) (Many m) (many, is) (more, has) = ap Many (is ∙ sym has)
 
 pub shown_clear : (problem : Problem) (s : Solution) (c : Cert) (fault : No) → IsProblem problem.points problem.inputs → IsShown problem s c → ¬ OnNo problem s c (verify.No fault)
 shown_clear problem s c fault is (frame, V) (other, F) =

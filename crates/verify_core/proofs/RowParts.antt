@@ -11,12 +11,13 @@ use Rattle.log_law.specs.Logs.{Refutes}
 use Rattle.log_law.specs.Faults.{log_fault}
 use Rattle.log_law.specs.declared.LogFault.{LogFault}
 use Rattle.log_law.proofs.Proved.{faultless_logs_refute}
-use Rattle.flip_cnf.specs.HeldFrames.{HeldFrame, Listed, Many}
+use Rattle.flip_cnf.specs.HeldFrames.{HeldFrame}
 use Rattle.pair_rows.specs.declared.row.Evidence.{Evidence}
 use Rattle.pair_rows.specs.declared.row.Evidence.TheVariants.{Nothing, Crosses, Refuted}
 use Rattle.verify_core.specs.declared.fault.RowWhy.{RowWhy}
 use Rattle.verify_core.specs.declared.fault.RowWhy.TheVariants.{BadPair, EdgeNotThere, CountWrong, NoCnf, Log, LowerWrong, MetRound, MetEnd, MetLength, EndK, TooLargeWrong, PointsWrong}
-use Rattle.verify_core.specs.Formulas.{IsFormulaOf}
+use Rattle.pair_rows.specs.Versions.{formula_kind, IsFormulaOf}
+use Rattle.pair_rows.proofs.Formulas.{one_formula}
 use Rattle.verify_core.specs.RowFaults.{lower_by, IsPair, IsPairFault, IsSound, IsEvidenceFault, IsLowerFault}
 
 pub pair_clear : (inputs : List (List Edge)) (before : Option Edge) (pair : Edge) → IsPair inputs before pair → (why : RowWhy) → ¬ IsPairFault inputs before pair why
@@ -46,11 +47,6 @@ lower_clear lower evidence is (MetLength a b) h = h
 lower_clear lower evidence is (EndK a b) h = h
 lower_clear lower evidence is (TooLargeWrong a b) h = h
 lower_clear lower evidence is (PointsWrong n) h = h
-
--- ---- what the version changes: there is one formula at most
-pub one_formula : (version : ℕ) (frame : HeldFrame) (A B : List Edge) (k : ℕ) (f g : Formula) → IsFormulaOf version frame A B k f → IsFormulaOf version frame A B k g → f ≡ g
-one_formula version (Listed F) A B k f g is has = is.1 ∙ sym has.1
-one_formula version (Many n) A B k f g is has = absurd is
 
 refuting_clear : (f : Formula) (log : List Rattle.log_law.specs.Logs.Line) (fault : LogFault) → Refutes f log → log_fault f log ≡ Some fault → ⊥
 refuting_clear f log fault R e = let none = (faultless_logs_refute f log).1 R in absurd (none_some (sym none ∙ e))
@@ -88,7 +84,7 @@ module _ (version : ℕ) (points : List Point) (frame : HeldFrame) (A B : List E
   evidence_clear (Refuted k log) is (EdgeNotThere e) h = h
   evidence_clear (Refuted k log) is (CountWrong a b) h = h
   evidence_clear (Refuted k log) is NoCnf h = h is.0 is.1
-  evidence_clear (Refuted k log) is (Log f) h = refuting_clear h.0 log f (subst (λ g. Refutes g log) (one_formula version frame A B k is.0 h.0 is.1 h.1) is.2) h.2
+  evidence_clear (Refuted k log) is (Log f) h = refuting_clear h.0 log f (subst (λ g. Refutes g log) (one_formula (formula_kind version) points frame A B k is.0 h.0 is.1 h.1) is.2) h.2
   evidence_clear (Refuted k log) is (LowerWrong a b) h = h
   evidence_clear (Refuted k log) is (MetRound f) h = h
   evidence_clear (Refuted k log) is (MetEnd e) h = h
@@ -98,7 +94,7 @@ module _ (version : ℕ) (points : List Point) (frame : HeldFrame) (A B : List E
   evidence_clear (Refuted k log) is (PointsWrong n) h = h
 
   -- a lower bound that an evidence gives is low
-  pub lower_low : IsTriangulation points A → IsTriangulation points B → length points ≤ 16384 → ((built : Formula) (k : ℕ) → IsFormulaOf version frame A B k built → k ≤ 200_000) → (evidence : Evidence) → IsSound version points frame A B evidence → lower_by evidence ≤ 200_001
+  pub lower_low : IsTriangulation points A → IsTriangulation points B → length points ≤ 16384 → ((built : Formula) (k : ℕ) → IsFormulaOf (formula_kind version) points frame A B k built → k ≤ 200_000) → (evidence : Evidence) → IsSound version points frame A B evidence → lower_by evidence ≤ 200_001
   lower_low N M few rounds Nothing is = omega arith
   lower_low N M few rounds (Crosses First edge count) is = let d = digits_at_most count 32 (subst (λ n. n < 2 ^ 32) (sym is.1) (crossings_are_few points B edge M few)) in omega (arith, d)
   lower_low N M few rounds (Crosses Second edge count) is = let d = digits_at_most count 32 (subst (λ n. n < 2 ^ 32) (sym is.1) (crossings_are_few points A edge N few)) in omega (arith, d)

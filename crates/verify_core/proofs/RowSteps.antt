@@ -12,7 +12,9 @@ use Rattle.verify_core.specs.declared.fault.RowFault.{RowFault}
 use Rattle.verify_core.specs.declared.fault.RowFault.TheVariants.{Why, OutOfMemory}
 use Rattle.verify_core.specs.RowFaults.{OnWhy, lower_by, IsPair, IsSound, IsLowerFault, IsEndFault, IsSoundRow, IsFirstWhy}
 use Rattle.verify_core.specs.Faults.{pair_before, AreSoundTo, IsFirstRowFault}
-use Rattle.verify_core.proofs.Formulas.{few_rounds, input_triangulated}
+use Rattle.pair_rows.specs.Versions.{formula_kind}
+use Rattle.pair_rows.proofs.Formulas.{few_rounds}
+use Rattle.verify_core.proofs.Formulas.{input_triangulated}
 use Rattle.verify_core.proofs.RowParts.{pair_clear, evidence_clear, lower_clear, lower_low}
 
 module _ (version : ℕ) (points : List Point) (inputs : List (List Edge)) (frame : HeldFrame) (before : Option Edge) (row : Row) where
@@ -21,7 +23,7 @@ module _ (version : ℕ) (points : List Point) (inputs : List (List Edge)) (fram
   low_bound held problem (order, within, after) is =
       lower_low version points frame (input_at inputs row.i) (input_at inputs row.j)
       (input_triangulated points inputs row.i problem (omega (arith, order, within))) (input_triangulated points inputs row.j problem within) problem.few_points
-      (λ built k f. few_rounds version points frame (input_at inputs row.i) (input_at inputs row.j) k built held problem.placed (input_triangulated points inputs row.i problem (omega (arith, order, within))) f) row.evidence is
+      (λ built k f. few_rounds (formula_kind version) points frame (input_at inputs row.i) (input_at inputs row.j) k built problem.placed (input_triangulated points inputs row.i problem (omega (arith, order, within))) (input_triangulated points inputs row.j problem within) held f) row.evidence is
 
   pub why_lower : IsPair inputs before (row.i, row.j) → IsSound version points frame (input_at inputs row.i) (input_at inputs row.j) row.evidence → (fault : RowFault) → OnWhy (IsLowerFault row.lower row.evidence) fault
       → OnWhy (IsFirstWhy version points inputs frame before row) fault

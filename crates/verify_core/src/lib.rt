@@ -1,7 +1,7 @@
 //! Whether a certificate shows the total and the bound of a solution, or the first fault.
 #![tactic(auto)]
 
-ghost use Rattle.verify_core.specs.Laws.{ShownHaveNoFault};
+ghost use Rattle.verify_core.specs.Laws.{ShownHaveNoFault, SoundRowsAreJustified};
 
 mod bound;
 mod end;
@@ -17,7 +17,8 @@ mod verifying;
 pub use fault::{No, RowWhy, VerifyFault};
 pub use verifying::{Yes, verify};
 
-/// The law of faults: what is shown has none. So the verifier says yes exactly where it can.
+/// The laws of faults. What is shown has none, so the verifier says yes exactly where it can. A row that has none is justified with the formula of the certificate's version.
 pub fn laws()
-    ensures { ShownHaveNoFault }
+    ensures shown_have_no_fault { ShownHaveNoFault }
+    ensures sound_rows_are_justified { SoundRowsAreJustified }
 {}

@@ -69,10 +69,9 @@ fn scored(alloc: Global, inst: &Instance, s: &Solution) -> Result<Scored, Verify
     }
 }
 
-/// Whether the certificate shows the total of the solution and its bound, or the first fault.
+/// Whether the certificate shows the total of the solution and its bound, or the first fault. Its logs are those of the formula of its version: the whole one for version 1, and else the pruned one.
 pub fn verify(alloc: Global, inst: &Instance, s: &Solution, c: &Cert) -> Result<Yes, VerifyFault>
     requires writable { IsWritable c.now }
-    requires version { c.now.version ≡ 1 }
     ensures total { IfOk result (λ yes. yes.total ≡ total inst.now.weights s.now.lists) }
     ensures said { IfOk result (λ yes. yes.total ≡ c.now.total) }
     ensures bound { IfOk result (λ yes. yes.bound ≡ c.now.bound) }

@@ -5,6 +5,7 @@ use Rattle.bound_law.specs.Copies.{copy_lower}
 use Rattle.flip_cnf.specs.HeldFrames.{HeldFrame}
 use Rattle.pair_rows.specs.declared.row.Row as row
 use Rattle.pair_rows.specs.Rows.{IsEarned}
+use Rattle.pair_rows.specs.Versions.{Pruned}
 use Rattle.plan_law.specs.Plans.{Plan, plan_total}
 use Rattle.plan_law.specs.Books as law
 use Rattle.plan_law.specs.Books.{State, opening_state, state_after, row_of, lower_of, bound_of, bound, is_plan_entry, front}
@@ -70,7 +71,7 @@ pub record IsOwnRow (limits : Limits) (ground : HeldPlan) (frame : HeldFrame) (u
   pub found : row.Row
   pub there : slice_get journal place ≡ Some (Row u found)
   pub of_job : job_at limits ground u ≡ jobs.Compares found.i found.j
-  pub earned : IsEarned ground.problem.points ground.problem.inputs frame limits.budget found
+  pub earned : IsEarned Pruned ground.problem.points ground.problem.inputs frame limits.budget found
 
 -- the entry at the place is an assignment, after which the bound is `limit`
 pub record IsOwnPack (limits : Limits) (ground : HeldPlan) (u : ℕ) (journal : List Entry) (place limit : ℕ) : Type 0 where

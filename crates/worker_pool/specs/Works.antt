@@ -4,6 +4,7 @@ use Rattle.assignment_law.specs.Assignments.{HasGreatestSum}
 use Rattle.match_bound.specs.Tables.{weight}
 use Rattle.flip_cnf.specs.HeldFrames.{HeldFrame}
 use Rattle.pair_rows.specs.Rows.{IsEarned}
+use Rattle.pair_rows.specs.Versions.{Pruned}
 use Rattle.plan_law.specs.Plans.{Plan}
 use Rattle.plan_law.specs.Books.{State}
 use Rattle.plan_law.specs.Worlds.{lower_table}
@@ -33,7 +34,7 @@ module _ (limits : Limits) (frame : HeldFrame) (u : ℕ) (problem : Problem) (pl
   abbrev pub IsAnswerTo : Entry → Type 0
   IsAnswerTo (Move turn edges) = answer_on limits (ground_for problem plan) u plan ≡ Some (line_of (Move turn edges))
   IsAnswerTo (Swap turn input rounds) = answer_on limits (ground_for problem plan) u plan ≡ Some (line_of (Swap turn input rounds))
-  IsAnswerTo (Row turn row) = (turn ≡ u) × (job_at limits (ground_for problem plan) u ≡ jobs.Compares row.i row.j) × IsEarned problem.points problem.inputs frame limits.budget row
+  IsAnswerTo (Row turn row) = (turn ≡ u) × (job_at limits (ground_for problem plan) u ≡ jobs.Compares row.i row.j) × IsEarned Pruned problem.points problem.inputs frame limits.budget row
   IsAnswerTo (Pack turn perm) = (turn ≡ u) × (job_at limits (ground_for problem plan) u ≡ jobs.Packs) × HasGreatestSum (weight table) (length table) perm
 
   abbrev pub IsWork : Work → Type 0

@@ -1,5 +1,6 @@
 use Rattle.std.proofs.Common.{◌∙◌, []}
-use Rattle.flip_cnf.proofs.Writing.{fewer, next_takes, first, second, takes_1, takes_2, takes_third, takes_fourth, takes_fifth, all_written}
+use Rattle.formula_parts.proofs.Appending.{next_takes}
+use Rattle.flip_cnf.proofs.Writing.{fewer, first, second, takes_1, takes_2, takes_third, takes_fourth, takes_fifth, all_written}
 use Rattle.flip_cnf.proofs.build.write.Goals as goal
 
 pub add_layer-requires-clause-takes : goal.add_layer-requires-clause-takes

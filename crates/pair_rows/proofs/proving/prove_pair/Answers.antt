@@ -3,6 +3,7 @@ use Rattle.std.proofs.lemmas.Result.{IfOk-weaker}
 use Rattle.std.proofs.lemmas.List.Elements.{Contains-get_or}
 use Rattle.bound_law.specs.Bounds.{input_at}
 use Rattle.cross_bound.specs.declared.bound.CrossBound.TheVariants.{Same, Crossed}
+use Rattle.pair_rows.specs.Versions.{Pruned}
 use Rattle.pair_rows.proofs.Climbing.{seen_bound, bound_is_low, bound_begins}
 use Rattle.pair_rows.proofs.RowLaws.{same_earned, climbed_justified, row_true, row_exact}
 use Rattle.pair_rows.proofs.proving.prove_pair.Goals as goal
@@ -43,7 +44,7 @@ returns-in-Same-clause-earned c =
 
 pub returns-in-Same-clause-exact : goal.returns-in-Same-clause-exact
 returns-in-Same-clause-exact c =
-    row_exact c.args.inst.now.points c.args.inst.now.inputs c.args.frame.now _ c.count.ensures.problem c.requires.frame
+    row_exact Pruned c.args.inst.now.points c.args.inst.now.inputs c.args.frame.now _ c.count.ensures.problem c.requires.frame
     (same_earned c.args.inst.now.points c.args.inst.now.inputs c.args.frame.now c.args.budget c.args.i c.args.j c.make.result c.requires.order c.requires.within c.make.ensures
     (seen_bound c.input.result.now.points c.args.inst.now.points c.args.inst.now.inputs c.args.i c.args.j c.input.result.now.edges c.input-2.result.now.edges c.in_ok-cross_bound.field-0 Same
     c.input.ensures.points c.input.ensures.edges c.input-2.ensures.edges c.in-Same.is c.in_ok-cross_bound.ensures.bound)).justified
@@ -52,10 +53,10 @@ pub returns-in-Crossed-clause-is_true : goal.returns-in-Crossed-clause-is_true
 returns-in-Crossed-clause-is_true c =
     let points = c.args.inst.now.points in
     let inputs = c.args.inst.now.inputs in
-    IfOk-weaker c.climb.result _ _ (λ row h. row_true points inputs c.args.frame.now row c.count.ensures.problem c.requires.frame (climbed_justified points inputs c.args.frame.now c.args.budget c.args.i c.args.j row c.requires.order c.requires.within h)) c.climb.ensures
+    IfOk-weaker c.climb.result _ _ (λ row h. row_true Pruned points inputs c.args.frame.now row c.count.ensures.problem c.requires.frame (climbed_justified points inputs c.args.frame.now c.args.budget c.args.i c.args.j row c.requires.order c.requires.within h)) c.climb.ensures
 
 pub returns-in-Crossed-clause-exact : goal.returns-in-Crossed-clause-exact
 returns-in-Crossed-clause-exact c =
     let points = c.args.inst.now.points in
     let inputs = c.args.inst.now.inputs in
-    IfOk-weaker c.climb.result _ _ (λ row h. row_exact points inputs c.args.frame.now row c.count.ensures.problem c.requires.frame (climbed_justified points inputs c.args.frame.now c.args.budget c.args.i c.args.j row c.requires.order c.requires.within h)) c.climb.ensures
+    IfOk-weaker c.climb.result _ _ (λ row h. row_exact Pruned points inputs c.args.frame.now row c.count.ensures.problem c.requires.frame (climbed_justified points inputs c.args.frame.now c.args.budget c.args.i c.args.j row c.requires.order c.requires.within h)) c.climb.ensures
