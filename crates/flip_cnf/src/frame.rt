@@ -11,6 +11,7 @@ use crate::decode::read;
 use crate::size::clauses;
 use edge_table::Rounds;
 use formula_parts::Lists;
+use pruned_cnf::{Query, build, decode, size};
 use rup_check::{Cnf, Truth};
 use std::alloc::{AllocError, Global};
 use std::marker::Model;
@@ -133,8 +134,13 @@ impl Frame {
         ensures { IfOk result (λ size. size ≡ pruned_size_of inst.now.points (input_at inst.now.inputs i) (input_at inst.now.inputs j) k self.now) }
     {
         let _ = inst.count();
-        let _ = (i, j, k);
-        Err(AllocError)
+        match &self.kind {
+            Kind::Listed(lists) => {
+                let query = Query::of(self.alloc, lists, inst.input(i), inst.input(j), k)?;
+                Ok(Some(size(&query)))
+            }
+            Kind::Many(_) => Ok(None),
+        }
     }
 
     /// The pruned formula: it says the same as that of `build`, with variables for those segments and flips alone that crossings allow. Its time is near the number of its clauses and of the frame's pairs in all layers.
@@ -149,8 +155,17 @@ impl Frame {
         ensures fault { IfErr result (λ fault. IsPrunedFault inst.now.points (input_at inst.now.inputs i) (input_at inst.now.inputs j) k self.now fault) }
     {
         let _ = inst.count();
-        let _ = (i, j, k);
-        Err(BuildFault::OutOfMemory)
+        match &self.kind {
+            Kind::Listed(lists) => {
+                let query = Query::of(self.alloc, lists, inst.input(i), inst.input(j), k)?;
+                let size = size(&query);
+                if size > MOST_CLAUSES {
+                    return Err(BuildFault::TooLarge(size));
+                }
+                Ok(build(self.alloc, &query)?)
+            }
+            Kind::Many(count) => Err(BuildFault::ManyPoints(*count)),
+        }
     }
 
     /// The rounds that a model of the pruned formula tells: they lead from input `i` to input `j`, and their edges are in edge order.
@@ -171,8 +186,12 @@ impl Frame {
         ensures rounds { IfOk result (AreRounds inst.now.points (input_at inst.now.inputs i) (input_at inst.now.inputs j) k) }
     {
         let _ = inst.count();
-        let _ = truth.len();
-        let _ = (i, j, k);
-        Err(AllocError)
+        match &self.kind {
+            Kind::Listed(lists) => {
+                let query = Query::of(self.alloc, lists, inst.input(i), inst.input(j), k)?;
+                decode(self.alloc, &query, truth)
+            }
+            Kind::Many(_) => unreachable!(),
+        }
     }
 }
