@@ -4,7 +4,7 @@ use Rattle.host_io.specs.Store.{Held, one_more}
 use Rattle.centre_run.specs.declared.status.Status.{Status}
 use Rattle.centre_run.specs.declared.status.Status.TheVariants.{Done, Words, Refused, FlipBudget, Memory, ReadFault, WriteFault, No}
 use Rattle.centre_words.specs.declared.asked.Asked.{Asked}
-use Rattle.centre_words.specs.declared.asked.Asked.TheVariants.{Check, Score, Solve}
+use Rattle.centre_words.specs.declared.asked.Asked.TheVariants.{Check, Score, Solve, Verify}
 use Rattle.centre_words.specs.Words.{Asks}
 use Rattle.centre_words.proofs.Meets.{words_ask_once}
 use Rattle.centre_run.specs.declared.solving.SolveOptions.{SolveOptions}
@@ -12,7 +12,8 @@ use Rattle.plan_solve.specs.declared.order.Order.{Order}
 use Rattle.solution_json.specs.declared.solution.Solution.{Solution}
 use Rattle.tri_check.specs.Problems.{Problem}
 use Rattle.centre_run.specs.Orders.{order_of}
-use Rattle.centre_run.specs.Runs.{ScoreSays, SolveSays, OrderSays, SolutionSays, CommandDoes}
+use Rattle.cert_text.specs.declared.cert.Cert.{Cert}
+use Rattle.centre_run.specs.Runs.{ScoreSays, SolveSays, VerifySays, OrderSays, SolutionSays, CertificateSays, CommandDoes}
 use Rattle.centre_run.specs.Calls.{after_calling, after_writing, CallsFor, CommandCalls}
 
 -- what holds of the command that words ask for holds of any
@@ -63,6 +64,23 @@ solve_calls bytes name target options status line text before now (inl (refused,
     subst (λ s. CallsFor (Solve name target options.turns options.seed options.flips) s before now) (sym refused) (subst (λ t. now ≡ after_writing t (one_more before)) none calls)
 solve_calls bytes name target options status line text before now (inr (instance, spells, says)) calls =
     ordered_calls instance (order_of instance options) name target options status line text before now says calls
+
+certified_calls : (instance : Problem) (solution : Solution) (cert : Cert) (c : Asked) (status : Status) (line : List ℕ) (before now : ℕ) → CertificateSays instance solution cert status line → CallsFor c Done before now → CallsFor c No before now → CallsFor c status before now
+certified_calls instance solution cert c Done line before now says done no = done
+certified_calls instance solution cert c No line before now says done no = no
+certified_calls instance solution cert c Words line before now says done no = absurd says
+certified_calls instance solution cert c Refused line before now says done no = absurd says
+certified_calls instance solution cert c FlipBudget line before now says done no = absurd says
+certified_calls instance solution cert c Memory line before now says done no = absurd says
+certified_calls instance solution cert c ReadFault line before now says done no = absurd says
+certified_calls instance solution cert c WriteFault line before now says done no = absurd says
+
+pub verify_calls : (bytes others last first second third : List ℕ) (status : Status) (line : List ℕ) (before now : ℕ) → VerifySays bytes others last status line
+    → now ≡ after_calling (first ∷ second ∷ third ∷ []) before → CallsFor (Verify first second third) status before now
+verify_calls bytes others last first second third status line before now (inl (refused, names)) is =
+    subst (λ s. CallsFor (Verify first second third) s before now) (sym refused) is
+verify_calls bytes others last first second third status line before now (inr (instance, solution, cert, spells, lists, text, says)) is =
+    certified_calls instance solution cert (Verify first second third) status line before now says is is
 
 -- a command that says a status ends with it
 pub said_calls : (held : Option Held) (Failed : Type 0) (c : Asked) (status : Status) (before now : ℕ) → CallsFor c status before now → CommandCalls held Failed c status before now

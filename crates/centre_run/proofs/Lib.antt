@@ -2,3 +2,4 @@ mod Calling
 mod Once
 mod Found
 mod Saying
+mod Shown

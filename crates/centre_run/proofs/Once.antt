@@ -23,13 +23,20 @@ use Rattle.tri_theory.specs.Inputs.{IsCompleted}
 use Rattle.centre_run.specs.declared.status.Status.{Status}
 use Rattle.centre_run.specs.declared.status.Status.TheVariants.{Done, Words, Refused, FlipBudget, Memory, ReadFault, WriteFault, No}
 use Rattle.centre_words.specs.declared.asked.Asked.{Asked}
-use Rattle.centre_words.specs.declared.asked.Asked.TheVariants.{Check, Score, Solve}
+use Rattle.centre_words.specs.declared.asked.Asked.TheVariants.{Check, Score, Solve, Verify}
 use Rattle.centre_words.specs.Words.{Asks}
 use Rattle.centre_words.proofs.Meets.{words_ask_once}
+use Rattle.cert_text.specs.declared.cert.Cert.{Cert}
+use Rattle.cert_text.specs.Forms as cert_form
+use Rattle.cert_text.proofs.ReadLaws.{texts_spell_once}
+use Rattle.verify_core.specs.declared.fault.No as no
+use Rattle.verify_core.specs.declared.fault.VerifyFault.TheVariants as verify
+use Rattle.verify_core.specs.Faults.{IsShown, OnNo}
+use Rattle.verify_core.proofs.Clear.{shown_clear}
 use Rattle.plan_solve.specs.declared.order.Order.{Order}
 use Rattle.centre_run.specs.declared.solving.SolveOptions.{SolveOptions}
 use Rattle.centre_run.specs.Orders.{order_of}
-use Rattle.centre_run.specs.Runs.{SpellsValid, NamesInstanceFault, SpellsInstance, SpellsSolution, IsSolved, NamesScoreFault, NamesFileFault, SolutionSays, CheckSays, ScoreSays, OrderSays, SolveSays, Files, CommandSays, LacksFile, files_of, Says, HasReadCause}
+use Rattle.centre_run.specs.Runs.{SpellsValid, NamesInstanceFault, SpellsInstance, SpellsSolution, IsSolved, NamesScoreFault, NamesFileFault, NamesVerifyFault, SolutionSays, CertificateSays, CheckSays, ScoreSays, OrderSays, SolveSays, VerifySays, Files, CommandSays, LacksFile, files_of, Says, HasReadCause}
 
 -- the bound on calls is that of the command that was asked for
 pub calls_once : (words : List (List ℕ)) (c : Asked) (before now : ℕ) → Asks words c → now ≤ before + files_of c → (d : Asked) → Asks words d → now ≤ before + files_of d
@@ -89,6 +96,13 @@ files_faultless : (bytes others line : List ℕ) (i : Problem) (s : Solution) �
 files_faultless bytes others line i s a b (inl (form, first, told)) = a.valid.0 form first.holds
 files_faultless bytes others line i s a b (inr (inl (form, has, first, told))) = b.0 form first.holds
 files_faultless bytes others line i s a b (inr (inr (raw, bad, has, spells, first, told))) = valid_faultless bytes a.raw line a.valid (inr (raw, bad, spells, first, told))
+
+-- files of which the first spells an instance, the second a solution and the third a certificate have no fault
+all_faultless : (bytes others last line : List ℕ) (i : Problem) (s : Solution) (c : Cert) → SpellsInstance bytes i → SpellsSolution others s → cert_form.Spells last c → NamesVerifyFault bytes others last line → ⊥
+all_faultless bytes others last line i s c a b d (inl (form, first, told)) = a.valid.0 form first.holds
+all_faultless bytes others last line i s c a b d (inr (inl (form, has, first, told))) = b.0 form first.holds
+all_faultless bytes others last line i s c a b d (inr (inr (inl (has, too, (fault, first, none, told))))) = none c d
+all_faultless bytes others last line i s c a b d (inr (inr (inr (raw, bad, cert, has, text, spells, first, told)))) = valid_faultless bytes a.raw line a.valid (inr (raw, bad, spells, first, told))
 
 -- ---- what a command says of the files is one status
 
@@ -165,6 +179,35 @@ module _ (bytes : List ℕ) (options : SolveOptions) where
   solve_once s t k l f g (inr (i, a, says)) (inr (j, c, told)) =
       order_once i (order_of i options) s t k l f g says (subst (λ p. OrderSays p (order_of p options) t l g) (sym (instance_once bytes i j a c)) told)
 
+abbrev pub HasNo : Problem → Solution → Cert → Type 0
+HasNo i x c = (fault : no.No) × OnNo i x c (verify.No fault)
+
+certificate_kind : (i : Problem) (x : Solution) (c : Cert) (s : Status) (k : List ℕ) → CertificateSays i x c s k → ((s ≡ Done) × IsShown i x c) ⊎ ((s ≡ No) × HasNo i x c)
+certificate_kind i x c Done k a = inl (refl, a.0)
+certificate_kind i x c No k (fault, is, told) = inr (refl, (fault, is))
+certificate_kind i x c Words k a = absurd a
+certificate_kind i x c Refused k a = absurd a
+certificate_kind i x c FlipBudget k a = absurd a
+certificate_kind i x c Memory k a = absurd a
+certificate_kind i x c ReadFault k a = absurd a
+certificate_kind i x c WriteFault k a = absurd a
+
+shown_has_none : (i : Problem) (x : Solution) (c : Cert) → IsProblem i.points i.inputs → IsShown i x c → HasNo i x c → ⊥
+shown_has_none i x c problem shown (fault, is) = shown_clear i x c fault problem shown is
+
+module _ (bytes others last : List ℕ) where
+  verify_once : (s t : Status) (k l : List ℕ) → VerifySays bytes others last s k → VerifySays bytes others last t l → s ≡ t
+  verify_once s t k l (inl (d, p)) (inl (e, q)) = d ∙ sym e
+  verify_once s t k l (inl (d, p)) (inr (i, x, c, a, b, r, says)) = absurd (all_faultless bytes others last k i x c a b r p)
+  verify_once s t k l (inr (i, x, c, a, b, r, says)) (inl (e, q)) = absurd (all_faultless bytes others last l i x c a b r q)
+  verify_once s t k l (inr (i, x, c, a, b, r, says)) (inr (j, y, d, e, f, g, told)) =
+      let problem = instance_once bytes i j a e in
+      let given = solution.spelled_once others x y b.1 f.1 in
+      let read = texts_spell_once last c d r g in
+      let other = subst (λ p. CertificateSays p x c t l) (sym problem) (subst (λ z. CertificateSays j z c t l) (sym given) (subst (λ z. CertificateSays j y z t l) (sym read) told)) in
+      one_of_two s t Done No (IsShown i x c) (HasNo i x c) (IsShown i x c) (HasNo i x c)
+      (shown_has_none i x c a.problem) (shown_has_none i x c a.problem) (certificate_kind i x c s k says) (certificate_kind i x c t l other)
+
 module _ (held : Held) where
   -- one name holds one file
   same_file : (P : List ℕ → Type 0) (name bytes others : List ℕ) → map.get held name ≡ Some bytes → map.get held name ≡ Some others → P others → P bytes
@@ -179,12 +222,20 @@ module _ (held : Held) where
   command_once (Solve name target turns seed flips) s t k l f g (bytes, text, there, says, file) (others, other, here, told, same) =
       let options : SolveOptions = record { turns = turns; seed = seed; flips = flips } in
       solve_once bytes options s t k l text other says (same_file (λ b. SolveSays b options t l other) name bytes others there here told)
+  command_once (Verify first second third) s t k l f g (bytes, others, last, there, here, along, says, none) (bs, os, ls, with_first, with_second, with_third, told, empty) =
+      verify_once bytes others last s t k l says
+      (same_file (λ b. VerifySays b others last t l) first bytes bs there with_first
+      (same_file (λ o. VerifySays bs o last t l) second others os here with_second
+      (same_file (λ e. VerifySays bs os e t l) third last ls along with_third told)))
 
   command_reads : (c : Asked) (s : Status) (k : List ℕ) (f : Files) → CommandSays (Some held) c s k f → LacksFile (Some held) c → ⊥
   command_reads (Check name) s k f (bytes, there, says, none) lacks = held_there held name bytes there lacks
   command_reads (Score first second) s k f (bytes, others, there, here, says, none) (inl lacks) = held_there held first bytes there lacks
   command_reads (Score first second) s k f (bytes, others, there, here, says, none) (inr lacks) = held_there held second others here lacks
   command_reads (Solve name target turns seed flips) s k f (bytes, text, there, says, file) lacks = held_there held name bytes there lacks
+  command_reads (Verify first second third) s k f (bytes, others, last, there, here, along, says, none) (inl lacks) = held_there held first bytes there lacks
+  command_reads (Verify first second third) s k f (bytes, others, last, there, here, along, says, none) (inr (inl lacks)) = held_there held second others here lacks
+  command_reads (Verify first second third) s k f (bytes, others, last, there, here, along, says, none) (inr (inr lacks)) = held_there held third last along lacks
 
 module _ (words : List (List ℕ)) (held : Held) where
   pub says_once : (s t : Status) (k l : List ℕ) (f g : Files) → Says words (Some held) s k f → Says words (Some held) t l g → s ≡ t

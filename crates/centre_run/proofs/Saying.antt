@@ -15,17 +15,17 @@ use Rattle.tri_check.specs.declared.raw.RawInstance.{RawInstance}
 use Rattle.tri_check.specs.Accepted.{IsAccepted}
 use Rattle.tri_check.specs.Problems.{Problem}
 use Rattle.centre_run.specs.declared.status.Status.{Status}
-use Rattle.centre_run.specs.declared.status.Status.TheVariants.{Done, Words}
+use Rattle.centre_run.specs.declared.status.Status.TheVariants.{Done, Words, No}
 use Rattle.host_io.specs.Store.{Held, Writes}
 use Rattle.host_io.specs.declared.fail.StoreFail.TheVariants.{Failed}
 use Rattle.host_io.specs.Sink.{Takes}
 use Rattle.host_io.specs.declared.fail.SinkFail.{SinkFail}
 use Rattle.centre_words.specs.declared.asked.Asked.{Asked}
-use Rattle.centre_words.specs.declared.asked.Asked.TheVariants.{Check, Score, Solve}
+use Rattle.centre_words.specs.declared.asked.Asked.TheVariants.{Check, Score, Solve, Verify}
 use Rattle.centre_words.specs.Words.{Asks, IsUnasked}
 use Rattle.centre_run.specs.declared.solving.SolveOptions.{SolveOptions}
 use Rattle.centre_run.specs.Lines.{valid_line, words_line}
-use Rattle.centre_run.specs.Runs.{MayHold, CheckSays, ScoreSays, SolveSays, Files, file_under, CommandSays, CommandDoes, CommandBreaksOff, Says, AreWritten, HasWritten, AreCutOff, HasBrokenOff, Does, BreaksOff, LeavesName, KeepsOthers, IsTold, IsCutOff, TellsPart}
+use Rattle.centre_run.specs.Runs.{MayHold, CheckSays, ScoreSays, SolveSays, VerifySays, AsksToVerify, Files, file_under, CommandSays, CommandDoes, CommandBreaksOff, Says, AreWritten, HasWritten, AreCutOff, HasBrokenOff, Does, BreaksOff, LeavesName, KeepsOthers, IsTold, IsCutOff, TellsPart}
 
 pub accepted_says : (bytes : List ℕ) (raw : RawInstance) (problem : Problem) (status : Status) (line : List ℕ) → HasForm bytes → Spells bytes raw
     → IsAccepted raw.uid raw.points raw.inputs raw.weights problem → status ≡ Done → line ≡ valid_line (length problem.points) (length problem.inputs)
@@ -53,6 +53,30 @@ check_does old new name bytes status line held same says = ([], (bytes, held, sa
 pub score_does : (old new : Option Held) (first second bytes others : List ℕ) (status : Status) (line : List ℕ) → MayHold old first bytes → MayHold old second others → new ≡ old → ScoreSays bytes others status line
     → CommandDoes old new (Score first second) status line
 score_does old new first second bytes others status line held here same says = ([], (bytes, others, held, here, says, refl), nothing_written old new same)
+
+pub verify_does : (old new : Option Held) (first second third bytes others last : List ℕ) (status : Status) (line : List ℕ) → MayHold old first bytes → MayHold old second others → MayHold old third last → new ≡ old
+    → VerifySays bytes others last status line → CommandDoes old new (Verify first second third) status line
+verify_does old new first second third bytes others last status line held here there same says =
+    ([], (bytes, others, last, held, here, there, says, refl), nothing_written old new same)
+
+-- the words ask for the texts of the names that were read
+pub verify_asked : (words : List (List ℕ)) (i s c first second third : List ℕ) → first ≡ i → second ≡ s → third ≡ c → Asks words (Verify i s c) → Asks words (Verify first second third)
+verify_asked words i s c first second third a b d asks =
+    subst (λ n. Asks words (Verify n second third)) (sym a) (subst (λ n. Asks words (Verify i n third)) (sym b) (subst (λ n. Asks words (Verify i s n)) (sym d) asks))
+
+-- `verify` alone says that a certificate doesn't show what it says
+no_asked : (words : List (List ℕ)) (held : Option Held) (c : Asked) (line : List ℕ) (files : Files) → Asks words c → CommandSays held c No line files → AsksToVerify words
+no_asked words held (Check i) line files asks (bytes, there, says, none) = absurd says
+no_asked words held (Score i s) line files asks (bytes, others, there, here, inl (refused, names), none) = cc
+no_asked words held (Score i s) line files asks (bytes, others, there, here, inr (instance, solution, spells, lists, says), none) = absurd says
+no_asked words held (Solve i target turns seed flips) line files asks (bytes, text, there, inl (refused, names, none), is) = cc
+no_asked words held (Solve i target turns seed flips) line files asks (bytes, text, there, inr (instance, spells, says), is) = absurd says
+no_asked words held (Verify i s c) line files asks says = (i, s, c, asks)
+
+pub no_by_verify : (words : List (List ℕ)) (old new : Option Held) (line : List ℕ) → Does words old new No line → AsksToVerify words
+no_by_verify words old new line (files, inl (unasked, is, told, none), written) = cc
+no_by_verify words old new line (files, inr (c, asks, inl says), written) = no_asked words old c line files asks says
+no_by_verify words old new line (files, inr (c, asks, inr (lacks, is, told, none)), written) = cc
 
 -- what the words of no command let a run say
 pub words_does : (words : List (List ℕ)) (old new : Option Held) (status : Status) (line : List ℕ) → IsUnasked words → new ≡ old → status ≡ Words → line ≡ words_line → Does words old new status line
@@ -126,6 +150,7 @@ module _ (name : List ℕ) where
   command_others words held (Score i s) status line files leaves asks (bytes, others, there, here, says, none) = no_file files none
   command_others words held (Solve i target turns seed flips) status line files leaves asks (bytes, text, there, says, is) =
       subst AreOthers (sym is) (target_file target text (λ same. leaves (Solve i target turns seed flips) asks (0, omega arith, sym same)))
+  command_others words held (Verify i s c) status line files leaves asks (bytes, others, last, there, here, with_third, says, none) = no_file files none
 
   others_said : (words : List (List ℕ)) (held : Option Held) (status : Status) (line : List ℕ) (files : Files) → LeavesName words name → Says words held status line files → AreOthers files
   others_said words held status line files leaves (inl (unasked, is, told, none)) = no_file files none

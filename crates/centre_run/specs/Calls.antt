@@ -2,9 +2,9 @@
 use Rattle.std.specs.Prelude.{◌≡◌, ◌⊎◌, ℕ, ◌+◌, ◌≤◌, List, [], ◌∷◌, ◌++◌, Option, Some, None}
 use Rattle.host_io.specs.Store.{Held, one_more}
 use Rattle.centre_run.specs.declared.status.Status.{Status}
-use Rattle.centre_run.specs.declared.status.Status.TheVariants.{Done, Refused, FlipBudget, Memory, ReadFault, WriteFault}
+use Rattle.centre_run.specs.declared.status.Status.TheVariants.{Done, Refused, FlipBudget, Memory, ReadFault, WriteFault, No}
 use Rattle.centre_words.specs.declared.asked.Asked.{Asked}
-use Rattle.centre_words.specs.declared.asked.Asked.TheVariants.{Check, Score, Solve}
+use Rattle.centre_words.specs.declared.asked.Asked.TheVariants.{Check, Score, Solve, Verify}
 use Rattle.centre_words.specs.Words.{Asks}
 use Rattle.centre_run.specs.Runs.{MayHold, IsUnheld, files_of, written_by}
 
@@ -13,6 +13,7 @@ abbrev pub read_by : Asked → List (List ℕ)
 read_by (Check instance) = instance ∷ []
 read_by (Score instance solution) = instance ∷ solution ∷ []
 read_by (Solve instance solution turns seed flips) = instance ∷ []
+read_by (Verify instance solution certificate) = instance ∷ solution ∷ certificate ∷ []
 
 -- a count of calls after one more for each of these names
 abbrev pub after_calling : List (List ℕ) → ℕ → ℕ
@@ -31,6 +32,7 @@ abbrev pub CallsFor : Asked → Status → ℕ → ℕ → Type 0
 CallsFor c Done before now = now ≡ after_calling (read_by c ++ written_by c) before
 CallsFor c Refused before now = now ≡ after_calling (read_by c) before
 CallsFor c FlipBudget before now = now ≡ after_calling (read_by c) before
+CallsFor c No before now = now ≡ after_calling (read_by c) before
 CallsFor c _ before now = ⊥
 
 -- the calls of a command that ends with this status. A fault of writing comes in place of another status, and want of memory at any time

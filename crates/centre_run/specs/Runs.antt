@@ -22,11 +22,18 @@ use Rattle.replay.specs.declared.fault.ScoreFault.{ScoreFault}
 use Rattle.replay.specs.declared.fault.ScoreFault.TheVariants.{OutOfMemory}
 use Rattle.replay.specs.Scores.{IsScoreFault, AreAllDistinct}
 use Rattle.centre_run.specs.declared.status.Status.{Status}
-use Rattle.centre_run.specs.declared.status.Status.TheVariants.{Done, Words, Refused, FlipBudget, Memory, ReadFault}
+use Rattle.centre_run.specs.declared.status.Status.TheVariants.{Done, Words, Refused, FlipBudget, Memory, ReadFault, No}
 use Rattle.centre_words.specs.declared.asked.Asked.{Asked}
-use Rattle.centre_words.specs.declared.asked.Asked.TheVariants.{Check, Score, Solve}
+use Rattle.centre_words.specs.declared.asked.Asked.TheVariants.{Check, Score, Solve, Verify}
 use Rattle.centre_words.specs.Words.{Asks, IsUnasked}
 use Rattle.centre_run.specs.Lines.{words_line, valid_line, bad_line, form_line, total_line, solution_form_line, other_uid_line, score_fault_line, solved_line, budget_line}
+use Rattle.centre_run.specs.VerifyLines.{cert_form_line, yes_line, no_line}
+use Rattle.line_text.specs.declared.fault.TextFault.{TextFault}
+use Rattle.cert_text.specs.declared.cert.Cert.{Cert}
+use Rattle.cert_text.specs.Forms as cert_form
+use Rattle.verify_core.specs.declared.fault.No as no
+use Rattle.verify_core.specs.declared.fault.VerifyFault.TheVariants as verify
+use Rattle.verify_core.specs.Faults.{IsShown, OnNo}
 use Rattle.lawson_start.specs.Starts.{IsOverBudget}
 use Rattle.plan_law.specs.Plans.{Plan, schedules}
 use Rattle.plan_solve.specs.declared.order.Order.{Order}
@@ -90,11 +97,11 @@ SolutionSays instance solution Done line = IsSolved instance solution × (line �
 SolutionSays instance solution Refused line = NamesScoreFault instance solution line
 SolutionSays instance solution _ line = ⊥
 
--- what is said of raw values and a solution: the first fault of the values, or what the solution says of the instance that they are
-abbrev pub RawSays : RawInstance → Solution → Status → List ℕ → Type 0
-RawSays raw solution status line =
+-- what is said of raw values: their first fault, or else what is said of the instance that they are
+abbrev pub RawSays : RawInstance → (Problem → Status → List ℕ → Type 0) → Status → List ℕ → Type 0
+RawSays raw OfInstance status line =
     ((bad : Bad) × (status ≡ Refused) × IsFirstFault raw.points raw.inputs raw.weights bad × (line ≡ bad_line bad))
-    ⊎ ((instance : Problem) × IsAccepted raw.uid raw.points raw.inputs raw.weights instance × IsProblem instance.points instance.inputs × SolutionSays instance solution status line)
+    ⊎ ((instance : Problem) × IsAccepted raw.uid raw.points raw.inputs raw.weights instance × IsProblem instance.points instance.inputs × OfInstance instance status line)
 
 -- the line names the first fault of the form of the instance, or else of the form of the solution, or else of the instance
 abbrev pub NamesFileFault : List ℕ → List ℕ → List ℕ → Type 0
@@ -110,6 +117,32 @@ pub record IsFound (instance : Problem) (order : Order) (solution : Solution) : 
   pub lists : solution.lists ≡ schedules plan
   pub solved : IsSolved instance solution
   pub written : SpellsSolution (text_of solution) solution
+
+-- ---- certificates
+
+-- the line names the first fault of the bytes as a certificate, and they spell none
+abbrev pub NamesCertFault : List ℕ → List ℕ → Type 0
+NamesCertFault bytes line = (fault : TextFault) × cert_form.IsFirstCertFault bytes fault × ((cert : Cert) → ¬ cert_form.Spells bytes cert) × (line ≡ cert_form_line fault)
+
+-- a total and a bound are proved: the solution is one of the instance with that total, so its lists lead from the inputs, in order, to one centre, and no plan of the instance, whoever finds it, has a total below the bound
+pub record IsProved (instance : Problem) (solution : Solution) (proved bound : ℕ) : Type 0 where
+  pub solved : IsSolved instance solution
+  pub reached : proved ≡ total instance.weights solution.lists
+  pub least : (centre : List Edge) (schedules : List (List (List Edge))) → IsPlan instance.points instance.inputs centre schedules → bound ≤ total instance.weights schedules
+
+-- what a certificate says of a solution of the instance: its total and its bound, which it shows and which are proved, or the first fault
+abbrev pub CertificateSays : Problem → Solution → Cert → Status → List ℕ → Type 0
+CertificateSays instance solution cert Done line = IsShown instance solution cert × IsProved instance solution cert.total cert.bound × (line ≡ yes_line cert.total cert.bound)
+CertificateSays instance solution cert No line = (fault : no.No) × OnNo instance solution cert (verify.No fault) × (line ≡ no_line fault)
+CertificateSays instance solution cert _ line = ⊥
+
+-- the line names the first fault of the form of the instance, or else of the form of the solution, or else of the form of the certificate, or else of the instance
+abbrev pub NamesVerifyFault : List ℕ → List ℕ → List ℕ → List ℕ → Type 0
+NamesVerifyFault bytes others last line =
+    ((form : Form) × IsFirstFormFault bytes form × (line ≡ form_line form))
+    ⊎ (((form : SolForm) × HasForm bytes × IsFirstSolFault others form × (line ≡ solution_form_line form))
+    ⊎ ((HasForm bytes × solution_fault.HasForm others × NamesCertFault last line)
+    ⊎ ((raw : RawInstance) × (bad : Bad) × (cert : Cert) × solution_fault.HasForm others × cert_form.Spells last cert × Spells bytes raw × IsFirstFault raw.points raw.inputs raw.weights bad × (line ≡ bad_line bad))))
 
 -- ---- the commands
 
@@ -137,6 +170,12 @@ SolveSays bytes options status line text =
     ((status ≡ Refused) × NamesInstanceFault bytes line × (text ≡ None))
     ⊎ ((instance : Problem) × SpellsInstance bytes instance × OrderSays instance (order_of instance options) status line text)
 
+-- what `verify` says of the bytes of three files: the first fault of one of them, or what the certificate says
+abbrev pub VerifySays : List ℕ → List ℕ → List ℕ → Status → List ℕ → Type 0
+VerifySays bytes others last status line =
+    ((status ≡ Refused) × NamesVerifyFault bytes others last line)
+    ⊎ ((instance : Problem) × (solution : Solution) × (cert : Cert) × SpellsInstance bytes instance × SpellsSolution others solution × cert_form.Spells last cert × CertificateSays instance solution cert status line)
+
 -- files that are written: their names and their bytes
 abbrev pub Files : Type 0
 Files = List (List ℕ × List ℕ)
@@ -153,24 +192,33 @@ CommandSays held (Score instance solution) status line files =
     (bytes : List ℕ) × (others : List ℕ) × MayHold held instance bytes × MayHold held solution others × ScoreSays bytes others status line × (files ≡ [])
 CommandSays held (Solve instance solution turns seed flips) status line files =
     (bytes : List ℕ) × (text : Option (List ℕ)) × MayHold held instance bytes × SolveSays bytes (record { turns = turns; seed = seed; flips = flips }) status line text × (files ≡ file_under solution text)
+CommandSays held (Verify instance solution certificate) status line files =
+    (bytes : List ℕ) × (others : List ℕ) × (last : List ℕ) × MayHold held instance bytes × MayHold held solution others × MayHold held certificate last × VerifySays bytes others last status line × (files ≡ [])
 
 -- a file that the command reads isn't held
 abbrev pub LacksFile : Option Held → Asked → Type 0
 LacksFile held (Check instance) = IsUnheld held instance
 LacksFile held (Score instance solution) = IsUnheld held instance ⊎ IsUnheld held solution
 LacksFile held (Solve instance solution turns seed flips) = IsUnheld held instance
+LacksFile held (Verify instance solution certificate) = IsUnheld held instance ⊎ (IsUnheld held solution ⊎ IsUnheld held certificate)
 
 -- how many files the command reads or writes
 abbrev pub files_of : Asked → ℕ
 files_of (Check instance) = 1
 files_of (Score instance solution) = 2
 files_of (Solve instance solution turns seed flips) = 2
+files_of (Verify instance solution certificate) = 3
 
 -- the names under which the command writes
 abbrev pub written_by : Asked → List (List ℕ)
 written_by (Check instance) = []
 written_by (Score instance solution) = []
 written_by (Solve instance solution turns seed flips) = solution ∷ []
+written_by (Verify instance solution certificate) = []
+
+-- the words ask to verify a certificate
+abbrev pub AsksToVerify : List (List ℕ) → Type 0
+AsksToVerify words = (instance : List ℕ) × (solution : List ℕ) × (certificate : List ℕ) × Asks words (Verify instance solution certificate)
 
 -- what a run says, and the files that it writes: the status and the line that the words and the files call for. Memory and writes that fail aren't theirs to say
 abbrev pub Says : List (List ℕ) → Option Held → Status → List ℕ → Files → Type 0

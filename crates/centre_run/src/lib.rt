@@ -3,6 +3,7 @@
 
 mod checking;
 mod ending;
+mod fault_words;
 mod lines;
 mod reply;
 mod run;
@@ -11,6 +12,8 @@ mod solution_lines;
 mod solving;
 mod status;
 mod threads;
+mod verify_lines;
+mod verifying;
 
 pub use ending::end_number;
 pub use run::run_plain;

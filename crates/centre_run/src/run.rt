@@ -1,11 +1,11 @@
 // The top call: from the words to the status and the printed line.
-ghost use Rattle.std.specs.Prelude.{◌≡◌, ◌≢◌, ◌⊎◌, IfOk, IsErrOf, string_bytes};
+ghost use Rattle.std.specs.Prelude.{◌≡◌, ◌⊎◌, IfOk, IsErrOf, string_bytes};
 ghost use Rattle.host_io.specs.Store.{Rose};
 ghost use Rattle.centre_run.specs.Lines.{words_line};
 ghost use Rattle.centre_words.specs.Words.{texts, Asks, IsUnasked};
 ghost use Rattle.centre_words.specs.declared.asked.Asked.{Asked};
 ghost use Rattle.centre_run.specs.Calls.{CallsFor, CallsInOrder};
-ghost use Rattle.centre_run.specs.Runs.{Does, BreaksOff, KeepsOthers, IsReadOnly, HasReadCause, CallsOnce, IsFaultless, Completes, Tells, TellsPart};
+ghost use Rattle.centre_run.specs.Runs.{Does, BreaksOff, KeepsOthers, IsReadOnly, HasReadCause, CallsOnce, IsFaultless, Completes, Tells, TellsPart, AsksToVerify};
 
 use crate::checking::check_file;
 use crate::lines::words_text;
@@ -13,6 +13,7 @@ use crate::reply::{Quiet, Reply, with_line};
 use crate::scoring::score_files;
 use crate::solving::{SolveOptions, solve_file};
 use crate::status::Status;
+use crate::verifying::verify_files;
 use centre_words::{Asked, WordsFault, read_words};
 use host_io::{Sink, Store, put_all};
 use std::alloc::Global;
@@ -63,6 +64,19 @@ fn reply_to<S: Store>(alloc: Global, words: &[String], store: &mut S) -> Result<
             let options = SolveOptions { turns, seed, flips };
             solve_file(alloc, store, instance.text(), solution.text(), options)
         }
+        Ok(
+            Asked::Verify {
+                instance,
+                solution,
+                certificate,
+            },
+        ) => verify_files(
+            alloc,
+            store,
+            instance.text(),
+            solution.text(),
+            certificate.text(),
+        ),
         Err(WordsFault::Words) => words_reply(alloc),
         Err(WordsFault::OutOfMemory) => Err(Quiet::Memory),
     }
@@ -89,8 +103,10 @@ pub fn run_plain<S: Store, O: Sink>(
     // 3: the run of an input is longer than the budget, and the line that names the first one was put.
     ensures budget { result ≡ Status.FlipBudget
         → Tells (texts words.now) (S.held store.old) (S.held store.new) Status.FlipBudget (O.told out.old) (O.told out.new) }
-    // 7: by no command so far.
-    ensures no_certificate { result ≢ Status.No }
+    // 7: a certificate doesn't show what it says, and the line that names its first fault was put. Only `verify` ends so.
+    ensures no { result ≡ Status.No
+        → Tells (texts words.now) (S.held store.old) (S.held store.new) Status.No (O.told out.old) (O.told out.new) }
+    ensures no_by_verify { result ≡ Status.No → AsksToVerify (texts words.now) }
     // 4: free, and nothing was written or put.
     ensures memory { result ≡ Status.Memory → O.told out.new ≡ O.told out.old }
     ensures memory_kept { result ≡ Status.Memory → S.held store.new ≡ S.held store.old }

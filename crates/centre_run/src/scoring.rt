@@ -54,7 +54,7 @@ fn solution_reply(alloc: Global, instance: &Instance, solution: &Solution) -> Re
 // What `score` says of values that have the form of an instance and of a solution.
 fn score_raw(alloc: Global, raw: RawInstance, solution: &Solution) -> Result<Reply, Quiet>
     requires { length raw.weights ≡ length raw.inputs }
-    ensures says { IfOk result (λ r. RawSays raw solution.now r.status (string_bytes r.line)) }
+    ensures says { IfOk result (λ r. RawSays raw (λ instance. SolutionSays instance solution.now) r.status (string_bytes r.line)) }
     ensures read { IsErrOf result Quiet.ReadFault → ⊥ }
     ensures write { IsErrOf result Quiet.WriteFault → ⊥ }
 {

@@ -1,8 +1,8 @@
 // The lines of totals and of refused solutions.
-ghost use Rattle.std.specs.Prelude.{◌≡◌, [], ◌∷◌, codes, decimal, IfOk, string_bytes};
-ghost use Rattle.centre_run.specs.Lines.{line, edge_text, solution_refused, total_line, solved_line, budget_line, solution_form_line, other_uid_line, round_line, input_count_line, no_common_centre_line};
+ghost use Rattle.std.specs.Prelude.{◌≡◌, [], ◌∷◌, IfOk, string_bytes};
+ghost use Rattle.centre_run.specs.Lines.{line, solution_refused, total_line, solved_line, budget_line, solution_form_line, other_uid_line, round_line, input_count_line, no_common_centre_line};
 
-use edge_table::Edge;
+use crate::fault_words::round_words;
 use replay::RoundFault;
 use solution_json::SolForm;
 use std::alloc::{AllocError, Global};
@@ -65,55 +65,10 @@ pub fn no_common_centre_text(alloc: Global, t: u32) -> Result<String, AllocError
     format!(in alloc; "refused solution NoCommonCentre {t}\n")
 }
 
-// A fault of a round with one edge.
-fn edge_fault_text(alloc: Global, t: u32, name: &str, r: u64, e: Edge) -> Result<String, AllocError>
-    ensures { IfOk result (λ s. string_bytes s
-        ≡ line (solution_refused (codes "Round" ∷ decimal t ∷ name.now ∷ decimal r ∷ edge_text e ∷ []))) }
-{
-    let (low, high) = (e.low(), e.high());
-    format!(in alloc; "refused solution Round {t} {name} {r} {low}-{high}\n")
-}
-
-// An edge as it is printed.
-fn edge_word(alloc: Global, e: Edge) -> Result<String, AllocError>
-    ensures { IfOk result (λ s. string_bytes s ≡ edge_text e) }
-{
-    let (low, high) = (e.low(), e.high());
-    format!(in alloc; "{low}-{high}")
-}
-
-// A fault of a round with two edges.
-fn edges_fault_text(
-    alloc: Global,
-    t: u32,
-    name: &str,
-    r: u64,
-    e: Edge,
-    f: Edge,
-) -> Result<String, AllocError>
-    ensures { IfOk result (λ s. string_bytes s
-        ≡ line (solution_refused (codes "Round" ∷ decimal t ∷ name.now ∷ decimal r ∷ edge_text e ∷ edge_text f ∷ []))) }
-{
-    let first = edge_word(alloc, e)?;
-    let second = edge_word(alloc, f)?;
-    format!(in alloc; "refused solution Round {t} {name} {r} {first} {second}\n")
-}
-
 /// The first fault in the rounds of an input.
 pub fn round_text(alloc: Global, t: u32, fault: RoundFault) -> Result<String, AllocError>
     ensures { IfOk result (λ s. string_bytes s ≡ round_line t fault) }
 {
-    match fault {
-        RoundFault::NotEdge(r, e) => edge_fault_text(alloc, t, "NotEdge", r, e),
-        RoundFault::Twice(r, e) => edge_fault_text(alloc, t, "Twice", r, e),
-        RoundFault::NotConvex(r, e) => edge_fault_text(alloc, t, "NotConvex", r, e),
-        RoundFault::SharedTriangle(r, e, f) => edges_fault_text(
-            alloc,
-            t,
-            "SharedTriangle",
-            r,
-            e,
-            f,
-        ),
-    }
+    let words = round_words(alloc, fault)?;
+    format!(in alloc; "refused solution Round {t} {words}\n")
 }

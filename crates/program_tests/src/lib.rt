@@ -8,6 +8,8 @@ mod sizes;
 #[cfg(test)]
 mod solving;
 #[cfg(test)]
+mod verifying;
+#[cfg(test)]
 mod weights;
 #[cfg(test)]
 mod words;

@@ -30,5 +30,18 @@ fn main(rt: HostRuntime) -> io::Result<()> {
     show(&rt, &["solve", "square.json", "no_folder/found.json"])?;
     show(&rt, &["solve", "square.json", "./square.json"])?;
     show(&rt, &["check", "square.json"])?;
+    show(
+        &rt,
+        &[
+            "verify",
+            "square.json",
+            "square.solution.json",
+            "square.cert",
+        ],
+    )?;
+    show(
+        &rt,
+        &["verify", "square.json", "square.solution.json", "high.cert"],
+    )?;
     Ok(())
 }

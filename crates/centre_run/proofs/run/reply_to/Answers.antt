@@ -1,6 +1,6 @@
 use Rattle.std.proofs.Common.{refl, sym, ap, subst, string_bytes, Err}
 use Rattle.std.proofs.lemmas.Result.{IfOk-weaker}
-use Rattle.centre_words.specs.declared.asked.Asked.TheVariants.{Check, Score, Solve}
+use Rattle.centre_words.specs.declared.asked.Asked.TheVariants.{Check, Score, Solve, Verify}
 use Rattle.centre_words.specs.Words.{texts, Asks}
 use Rattle.host_io.specs.Store.{Rose}
 use Rattle.centre_run.specs.declared.status.Status.TheVariants.{Done, ReadFault, WriteFault}
@@ -8,7 +8,7 @@ use Rattle.centre_run.specs.Runs.{Does}
 use Rattle.centre_run.specs.Calls.{CallsFor, CommandCalls}
 use Rattle.centre_run.proofs.Calling.{of_asked, check_calls}
 use Rattle.centre_words.specs.declared.asked.Asked.{Asked}
-use Rattle.centre_run.proofs.Saying.{command_does, command_breaks_off, words_does}
+use Rattle.centre_run.proofs.Saying.{command_does, command_breaks_off, words_does, verify_asked}
 use Rattle.centre_run.proofs.run.reply_to.Goals as goal
 
 pub returns-in-Ok-Check-clause-does : goal.returns-in-Ok-Check-clause-does
@@ -92,6 +92,32 @@ returns-in-Ok-Solve-clause-broken g c = λ failed.
     let asks = subst (λ n. Asks words (Solve first n o.turns o.seed o.flips)) (sym c.text-in-Ok-Solve-2.ensures.bytes)
     (subst (λ n. Asks words (Solve n o.solution o.turns o.seed o.flips)) (sym c.text-in-Ok-Solve.ensures.bytes) (subst (λ a. Asks words a) o.field-0-is o.ensures.asked)) in
     command_breaks_off words (g.S.Store.held c.args.store.now) (g.S.Store.held c.solve_file.new.store) (Solve first second o.turns o.seed o.flips) asks (c.solve_file.ensures.broken failed)
+
+pub returns-in-Ok-Verify-clause-does : goal.returns-in-Ok-Verify-clause-does
+returns-in-Ok-Verify-clause-does g c =
+    let words = texts c.args.words.now in
+    let old = g.S.Store.held c.args.store.now in
+    let new = g.S.Store.held c.verify_files.new.store in
+    let o = c.in-Ok-Verify in
+    let first = c.text-in-Ok-Verify.result.now in
+    let second = c.text-in-Ok-Verify-2.result.now in
+    let third = c.text-in-Ok-Verify-3.result.now in
+    let asks = verify_asked words o.instance o.solution o.certificate first second third c.text-in-Ok-Verify.ensures.bytes c.text-in-Ok-Verify-2.ensures.bytes c.text-in-Ok-Verify-3.ensures.bytes (subst (λ a. Asks words a) o.field-0-is o.ensures.asked) in
+    IfOk-weaker c.verify_files.result _ (λ r. Does words old new r.status (string_bytes r.line))
+    (λ r does. command_does words old new (Verify first second third) r.status (string_bytes r.line) asks does) c.verify_files.ensures.does
+
+pub returns-in-Ok-Verify-clause-called : goal.returns-in-Ok-Verify-clause-called
+returns-in-Ok-Verify-clause-called g c =
+    let words = texts c.args.words.now in
+    let o = c.in-Ok-Verify in
+    let first = c.text-in-Ok-Verify.result.now in
+    let second = c.text-in-Ok-Verify-2.result.now in
+    let third = c.text-in-Ok-Verify-3.result.now in
+    let asks = verify_asked words o.instance o.solution o.certificate first second third c.text-in-Ok-Verify.ensures.bytes c.text-in-Ok-Verify-2.ensures.bytes c.text-in-Ok-Verify-3.ensures.bytes (subst (λ a. Asks words a) o.field-0-is o.ensures.asked) in
+    let before = g.S.Store.calls c.args.store.now in
+    let now = g.S.Store.calls c.verify_files.new.store in
+    IfOk-weaker c.verify_files.result _ (λ r. (d : Asked) → Asks words d → CallsFor d r.status before now)
+    (λ r called. of_asked words (λ d. CallsFor d r.status before now) (Verify first second third) asks called) c.verify_files.ensures.called
 
 pub returns-in-Err-Words-clause-does : goal.returns-in-Err-Words-clause-does
 returns-in-Err-Words-clause-does g c =

@@ -1,0 +1,26 @@
+-- What the verifier accepts is proved.
+use Rattle.std.proofs.Common.{◌≡◌, ◌∙◌, sym, ap₂, subst, ℕ, ◌≤◌, List}
+use Rattle.edge_table.specs.declared.edge.Edge.{Edge}
+use Rattle.tri_theory.specs.Rounds.{IsPlan, total}
+use Rattle.tri_check.specs.Problems.{Problem}
+use Rattle.solution_json.specs.declared.solution.Solution.{Solution}
+use Rattle.cert_text.specs.declared.cert.Cert.{Cert}
+use Rattle.verify_core.specs.Faults.{IsShown}
+use Rattle.centre_run.specs.declared.status.Status.{Status}
+use Rattle.centre_run.specs.declared.status.Status.TheVariants.{Done}
+use Rattle.centre_run.specs.VerifyLines.{yes_line}
+use Rattle.centre_run.specs.Runs.{IsSolved, IsProved, CertificateSays}
+
+shown_solved : (i : Problem) (s : Solution) (c : Cert) → IsShown i s c → IsSolved i s
+shown_solved i s c (frame, V) = record { uid = V.solution_uid; centre = V.centre; plan = V.plan; distinct = V.distinct }
+
+pub shown_says : (i : Problem) (s : Solution) (c : Cert) (proved bound : ℕ) (status : Status) (line : List ℕ) → IsShown i s c → proved ≡ total i.weights s.lists → proved ≡ c.total → bound ≡ c.bound
+    → ((centre : List Edge) (schedules : List (List (List Edge))) → IsPlan i.points i.inputs centre schedules → bound ≤ total i.weights schedules)
+    → status ≡ Done → line ≡ yes_line proved bound → CertificateSays i s c status line
+shown_says i s c proved bound status line shown reached said is least done told =
+    subst (λ t. CertificateSays i s c t line) (sym done)
+    (shown, record {
+      solved = shown_solved i s c shown;
+      reached = sym said ∙ reached;
+      least = λ centre schedules plan. subst (λ n. n ≤ total i.weights schedules) is (least centre schedules plan);
+    }, told ∙ ap₂ yes_line said is)
