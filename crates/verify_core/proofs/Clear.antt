@@ -101,7 +101,7 @@ module _ (version : ℕ) (points : List Point) (frame : HeldFrame) (P : ArePlace
   end_clear (ManyPoints n) is (PointsWrong n') h = let e = h.0 in let a = is.0 in let g = is.1 in elim h.1 [ inl d ↦ d (a ∙ sym e) | inr z ↦ omega (arith, z, e, a, g) ]
 
 module _ (version : ℕ) (points : List Point) (inputs : List (List Edge)) (frame : HeldFrame) (problem : IsProblem points inputs) where
-  row_clear : (before : Option Edge) (row : Row) → IsSoundRow version points inputs frame before row → (why : RowWhy) → ¬ IsFirstWhy version points inputs frame before row why
+  pub row_clear : (before : Option Edge) (row : Row) → IsSoundRow version points inputs frame before row → (why : RowWhy) → ¬ IsFirstWhy version points inputs frame before row why
   row_clear before row S why (inl h) = pair_clear inputs before (row.i, row.j) S.pair why h
   row_clear before row S why (inr (a, inl h)) = evidence_clear version points frame (input_at inputs row.i) (input_at inputs row.j) row.evidence S.evidence why h
   row_clear before row S why (inr (a, inr (b, inl h))) = lower_clear row.lower row.evidence S.lower why h

@@ -2,6 +2,7 @@ mod Bounds
 mod Clear
 mod Ends
 mod Formulas
+mod OneFault
 mod Truths
 mod RowParts
 mod RowSteps
