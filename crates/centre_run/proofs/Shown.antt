@@ -18,9 +18,12 @@ pub shown_says : (i : Problem) (s : Solution) (c : Cert) (proved bound : ℕ) (s
     → ((centre : List Edge) (schedules : List (List (List Edge))) → IsPlan i.points i.inputs centre schedules → bound ≤ total i.weights schedules)
     → status ≡ Done → line ≡ yes_line proved bound → CertificateSays i s c status line
 shown_says i s c proved bound status line shown reached said is least done told =
-    subst (λ t. CertificateSays i s c t line) (sym done)
-    (shown, record {
-      solved = shown_solved i s c shown;
-      reached = sym said ∙ reached;
-      least = λ centre schedules plan. subst (λ n. n ≤ total i.weights schedules) is (least centre schedules plan);
-    }, told ∙ ap₂ yes_line said is)
+    subst (λ t. CertificateSays i s c t line) (sym done) (
+      shown,
+      record {
+        solved = shown_solved i s c shown;
+        reached = sym said ∙ reached;
+        least = λ centre schedules plan. subst (λ n. n ≤ total i.weights schedules) is (least centre schedules plan);
+      },
+      told ∙ ap₂ yes_line said is,
+    )

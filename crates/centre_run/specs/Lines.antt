@@ -111,11 +111,15 @@ round_words (Twice r e) = codes "Twice" ∷ decimal r ∷ edge_text e ∷ []
 round_words (NotConvex r e) = codes "NotConvex" ∷ decimal r ∷ edge_text e ∷ []
 round_words (SharedTriangle r e f) = codes "SharedTriangle" ∷ decimal r ∷ edge_text e ∷ edge_text f ∷ []
 
+-- a fault of the rounds of the input with this place
+abbrev pub input_round_words : ℕ → RoundFault → List (List ℕ)
+input_round_words t fault = codes "Round" ∷ decimal t ∷ round_words fault
+
 abbrev pub input_count_line : ℕ → ℕ → List ℕ
 input_count_line said is = line (solution_refused (codes "InputCount" ∷ decimal said ∷ decimal is ∷ []))
 
 abbrev pub round_line : ℕ → RoundFault → List ℕ
-round_line t fault = line (solution_refused (codes "Round" ∷ decimal t ∷ round_words fault))
+round_line t fault = line (solution_refused (input_round_words t fault))
 
 abbrev pub no_common_centre_line : ℕ → List ℕ
 no_common_centre_line t = line (solution_refused (codes "NoCommonCentre" ∷ decimal t ∷ []))

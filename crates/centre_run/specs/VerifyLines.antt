@@ -9,7 +9,7 @@ use Rattle.verify_core.specs.declared.fault.RowWhy.{RowWhy}
 use Rattle.verify_core.specs.declared.fault.RowWhy.TheVariants as why
 use Rattle.verify_core.specs.declared.fault.No.{No}
 use Rattle.verify_core.specs.declared.fault.No.TheVariants as no
-use Rattle.centre_run.specs.Lines.{line, edge_text, round_words}
+use Rattle.centre_run.specs.Lines.{line, edge_text, round_words, input_round_words}
 
 -- ---- a text that is no certificate
 abbrev pub kind_word : CertKind → List ℕ
@@ -57,7 +57,7 @@ no_words no.UidSolution = codes "UidSolution" ∷ []
 no_words no.UidCertificate = codes "UidCertificate" ∷ []
 no_words (no.InputCount said is) = codes "InputCount" ∷ decimal said ∷ decimal is ∷ []
 no_words (no.CopyCount said is) = codes "CopyCount" ∷ decimal said ∷ decimal is ∷ []
-no_words (no.Round t fault) = codes "Round" ∷ decimal t ∷ round_words fault
+no_words (no.Round t fault) = input_round_words t fault
 no_words (no.NoCommonCentre t) = codes "NoCommonCentre" ∷ decimal t ∷ []
 no_words (no.TotalWrong said is) = codes "TotalWrong" ∷ decimal said ∷ decimal is ∷ []
 no_words (no.RowWrong i j fault) = codes "RowWrong" ∷ decimal i ∷ decimal j ∷ why_words fault

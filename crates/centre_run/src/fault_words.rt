@@ -1,6 +1,6 @@
 // Faults that stand in the lines of other faults: their names and their fields, with a space between.
 ghost use Rattle.std.specs.Prelude.{◌≡◌, [], ◌∷◌, ◌++◌, decimal, IfOk, string_bytes};
-ghost use Rattle.centre_run.specs.Lines.{spaced, edge_text, round_words};
+ghost use Rattle.centre_run.specs.Lines.{spaced, edge_text, round_words, input_round_words};
 ghost use Rattle.centre_run.specs.VerifyLines.{log_words};
 
 use edge_table::Edge;
@@ -77,6 +77,14 @@ pub fn round_words(alloc: Global, fault: RoundFault) -> Result<String, AllocErro
             edges_fault_words(alloc, "SharedTriangle", r, e, f)
         }
     }
+}
+
+/// A fault of the rounds of an input.
+pub fn input_round_words(alloc: Global, t: u32, fault: RoundFault) -> Result<String, AllocError>
+    ensures { IfOk result (λ s. string_bytes s ≡ spaced (input_round_words t fault)) }
+{
+    let words = round_words(alloc, fault)?;
+    format!(in alloc; "Round {t} {words}")
 }
 
 /// A fault of a log.

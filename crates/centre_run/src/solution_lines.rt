@@ -2,7 +2,7 @@
 ghost use Rattle.std.specs.Prelude.{◌≡◌, [], ◌∷◌, IfOk, string_bytes};
 ghost use Rattle.centre_run.specs.Lines.{line, solution_refused, total_line, solved_line, budget_line, solution_form_line, other_uid_line, round_line, input_count_line, no_common_centre_line};
 
-use crate::fault_words::round_words;
+use crate::fault_words::input_round_words;
 use replay::RoundFault;
 use solution_json::SolForm;
 use std::alloc::{AllocError, Global};
@@ -69,6 +69,6 @@ pub fn no_common_centre_text(alloc: Global, t: u32) -> Result<String, AllocError
 pub fn round_text(alloc: Global, t: u32, fault: RoundFault) -> Result<String, AllocError>
     ensures { IfOk result (λ s. string_bytes s ≡ round_line t fault) }
 {
-    let words = round_words(alloc, fault)?;
-    format!(in alloc; "refused solution Round {t} {words}\n")
+    let words = input_round_words(alloc, t, fault)?;
+    format!(in alloc; "refused solution {words}\n")
 }

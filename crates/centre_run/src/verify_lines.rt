@@ -1,10 +1,11 @@
 // The lines of certificates.
 ghost use Rattle.std.specs.Prelude.{◌≡◌, [], ◌∷◌, codes, decimal, IfOk, string_bytes};
-ghost use Rattle.centre_run.specs.Lines.{spaced, round_words};
+ghost use Rattle.centre_run.specs.Lines.{spaced};
 ghost use Rattle.centre_run.specs.VerifyLines.{kind_word, cert_form_line, yes_line, why_words, no_words, no_line};
 
 use crate::fault_words::{
-    before_words, edge_words, log_words, number_words, numbers_words, round_words,
+    before_words, edge_words, input_round_words, log_words, number_words, numbers_words,
+    round_words,
 };
 use cert_text::CertFault;
 use host_io::CertKind;
@@ -91,14 +92,6 @@ fn row_words(alloc: Global, i: u32, j: u32, why: RowWhy) -> Result<String, Alloc
 {
     let words = why_words(alloc, why)?;
     format!(in alloc; "RowWrong {i} {j} {words}")
-}
-
-// A fault of a solution's rounds, with its input.
-fn input_round_words(alloc: Global, t: u32, fault: RoundFault) -> Result<String, AllocError>
-    ensures { IfOk result (λ s. string_bytes s ≡ spaced (no_words (No.Round t fault))) }
-{
-    let words = round_words(alloc, fault)?;
-    format!(in alloc; "Round {t} {words}")
 }
 
 // A fault of a certificate.

@@ -111,10 +111,5 @@ pub(crate) fn verify_files<S: Store>(
     let bytes = read_file(alloc, store, instance)?;
     let others = read_file(alloc, store, solution)?;
     let last = read_file(alloc, store, certificate)?;
-    verify_bytes(
-        alloc,
-        bytes.as_slice(),
-        others.as_slice(),
-        last.as_slice(),
-    )
+    verify_bytes(alloc, bytes.as_slice(), others.as_slice(), last.as_slice())
 }
