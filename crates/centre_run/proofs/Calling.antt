@@ -66,14 +66,14 @@ solve_calls bytes name target options status line text before now (inr (instance
     ordered_calls instance (order_of instance options) name target options status line text before now says calls
 
 certified_calls : (instance : Problem) (solution : Solution) (cert : Cert) (c : Asked) (status : Status) (line : List ℕ) (before now : ℕ) → CertificateSays instance solution cert status line → CallsFor c Done before now → CallsFor c No before now → CallsFor c status before now
-certified_calls instance solution cert c Done line before now says done no = done
-certified_calls instance solution cert c No line before now says done no = no
-certified_calls instance solution cert c Words line before now says done no = absurd says
-certified_calls instance solution cert c Refused line before now says done no = absurd says
-certified_calls instance solution cert c FlipBudget line before now says done no = absurd says
-certified_calls instance solution cert c Memory line before now says done no = absurd says
-certified_calls instance solution cert c ReadFault line before now says done no = absurd says
-certified_calls instance solution cert c WriteFault line before now says done no = absurd says
+certified_calls instance solution cert c Done line before now says done refusal = done
+certified_calls instance solution cert c No line before now says done refusal = refusal
+certified_calls instance solution cert c Words line before now says done refusal = absurd says
+certified_calls instance solution cert c Refused line before now says done refusal = absurd says
+certified_calls instance solution cert c FlipBudget line before now says done refusal = absurd says
+certified_calls instance solution cert c Memory line before now says done refusal = absurd says
+certified_calls instance solution cert c ReadFault line before now says done refusal = absurd says
+certified_calls instance solution cert c WriteFault line before now says done refusal = absurd says
 
 pub verify_calls : (bytes others last first second third : List ℕ) (status : Status) (line : List ℕ) (before now : ℕ) → VerifySays bytes others last status line
     → now ≡ after_calling (first ∷ second ∷ third ∷ []) before → CallsFor (Verify first second third) status before now

@@ -1,11 +1,16 @@
 -- What the verifier accepts is proved.
-use Rattle.std.proofs.Common.{◌≡◌, ◌∙◌, sym, ap₂, subst, ℕ, ◌≤◌, List}
+use Rattle.std.proofs.Common.{◌≡◌, ◌∙◌, sym, ap₂, subst, ℕ, ◌≤◌, List, Ok, Err, string_bytes}
+use Rattle.std.specs.Prelude.{Result, IfOk, String}
+use Rattle.std.specs.declared.alloc.Global.{Global}
+use Rattle.std.specs.declared.alloc.AllocError.{AllocError}
 use Rattle.edge_table.specs.declared.edge.Edge.{Edge}
 use Rattle.tri_theory.specs.Rounds.{IsPlan, total}
 use Rattle.tri_check.specs.Problems.{Problem}
 use Rattle.solution_json.specs.declared.solution.Solution.{Solution}
 use Rattle.cert_text.specs.declared.cert.Cert.{Cert}
 use Rattle.verify_core.specs.Faults.{IsShown}
+use Rattle.centre_run.specs.declared.reply.Quiet.{Quiet}
+use Rattle.centre_run.specs.declared.reply.Reply.{Reply}
 use Rattle.centre_run.specs.declared.status.Status.{Status}
 use Rattle.centre_run.specs.declared.status.Status.TheVariants.{Done}
 use Rattle.centre_run.specs.VerifyLines.{yes_line}
@@ -27,3 +32,12 @@ shown_says i s c proved bound status line shown reached said is least done told 
       },
       told ∙ ap₂ yes_line said is,
     )
+
+-- a reply with the line of a yes says so
+pub shown_reply : (i : Problem) (s : Solution) (c : Cert) (proved bound : ℕ) (reply : Result Reply Quiet) (text : Result (String Global) AllocError) → IsShown i s c → proved ≡ total i.weights s.lists → proved ≡ c.total → bound ≡ c.bound
+    → ((centre : List Edge) (schedules : List (List (List Edge))) → IsPlan i.points i.inputs centre schedules → bound ≤ total i.weights schedules)
+    → IfOk text (λ t. string_bytes t ≡ yes_line proved bound) → IfOk reply (λ r. r.status ≡ Done) → IfOk reply (λ r. text ≡ Ok r.line)
+    → IfOk reply (λ r. CertificateSays i s c r.status (string_bytes r.line))
+shown_reply i s c proved bound (Err quiet) text shown reached said is least told done line = tt
+shown_reply i s c proved bound (Ok r) text shown reached said is least told done line =
+    shown_says i s c proved bound r.status (string_bytes r.line) shown reached said is least done (subst (λ t. IfOk t (λ u. string_bytes u ≡ yes_line proved bound)) line told)

@@ -1,7 +1,7 @@
 // Runs of `verify` over stores and sinks in memory: each row the files, and the line that is wanted.
 use centre_run::*;
-use std::alloc::Global;
 use host_io::{MemSink, MemStore};
+use std::alloc::Global;
 use std::test::Fail;
 
 const SQUARE: &str =
