@@ -33,13 +33,15 @@ use Rattle.verify_core.specs.declared.fault.RowWhy.{RowWhy}
 use Rattle.verify_core.specs.declared.fault.RowWhy.TheVariants.{BadPair, EdgeNotThere, CountWrong, NoCnf, Log, LowerWrong, MetRound, MetEnd, MetLength, EndK, TooLargeWrong, PointsWrong}
 use Rattle.verify_core.specs.declared.fault.No.{No}
 use Rattle.verify_core.specs.declared.fault.No.TheVariants.{UidSolution, UidCertificate, InputCount, CopyCount, Round, NoCommonCentre, TotalWrong, RowWrong, NotPermutation, BoundWrong}
-use Rattle.verify_core.specs.Formulas.{clauses_of, large}
+use Rattle.pair_rows.specs.Versions.{formula_kind, clauses_of}
+use Rattle.verify_core.specs.Formulas.{large}
 use Rattle.verify_core.specs.RowFaults.{OrElse, named, lower_by, OfFormula, HasNoFormula, IsPair, IsPairFault, IsEvidenceFault, IsLowerFault, IsEndFault, IsFirstWhy}
 use Rattle.verify_core.specs.Faults.{pair_before, IsFirstRowFault, IsFirstWrongPlace, IsCountFault, Holds, number_of, IsFirstNo}
 use Rattle.verify_core.specs.Laws.{FirstFaultsAreOne}
 use Rattle.verify_core.proofs.Formulas.{input_triangulated}
-use Rattle.verify_core.proofs.RowParts.{one_formula, evidence_clear}
-use Rattle.verify_core.proofs.Clear.{row_clear, one_held}
+use Rattle.pair_rows.proofs.Formulas.{one_held, one_formula}
+use Rattle.verify_core.proofs.RowParts.{evidence_clear}
+use Rattle.verify_core.proofs.Clear.{row_clear}
 
 -- ---- the first fault of several tries
 or_once : {F : Type 0} (Here Rest : F → Type 0) → ((f g : F) → Here f → Here g → f ≡ g) → (((other : F) → ¬ Here other) → (f g : F) → Rest f → Rest g → f ≡ g) → (f g : F) → OrElse Here Rest f → OrElse Here Rest g → f ≡ g
@@ -97,7 +99,7 @@ module _ (version : ℕ) (points : List Point) (frame : HeldFrame) (A B : List E
   log_once test k f g (inl (e, none)) (inr (b, d, (built, is, at))) = absurd (none built is)
   log_once test k f g (inr (a, e, (built, is, at))) (inl (d, none)) = absurd (none built is)
   log_once test k f g (inr (a, e, (built, is, at))) (inr (b, d, (other, has, there))) =
-      let same : Some a ≡ Some b = sym at ∙ (ap test (one_formula version frame A B k built other is has) ∙ there) in
+      let same : Some a ≡ Some b = sym at ∙ (ap test (one_formula (formula_kind version) points frame A B k built other is has) ∙ there) in
       e ∙ (ap Log (same_some a b same) ∙ sym d)
 
   abbrev IsOfEdge : Side → Edge → ℕ → RowWhy → Type 0
@@ -211,7 +213,7 @@ module _ (version : ℕ) (points : List Point) (frame : HeldFrame) (A B : List E
     spent_shape k log (PointsWrong is) h = absurd h
 
     abbrev IsOfSize : ℕ → ℕ → RowWhy → Type 0
-    IsOfSize k clauses why = why ≡ TooLargeWrong clauses (large (clauses_of version frame A B k))
+    IsOfSize k clauses why = why ≡ TooLargeWrong clauses (large (clauses_of (formula_kind version) points frame A B k))
 
     large_shape : (k clauses : ℕ) (why : RowWhy) → IsEndFault version points frame A B lower (TooLarge k clauses) why → IsOfK k (IsOfSize k clauses) why
     large_shape k clauses BadPair h = absurd h
