@@ -15,14 +15,6 @@ use Rattle.lawson_start.specs.Steps.{IsFirst, AreBad, IsOnTheWay, IsTraceOf}
 use Rattle.lawson_start.proofs.Openings.{input_at}
 use Rattle.lawson_start.proofs.Runs.{least_first, one_longer}
 
--- ---- no flip yet
-pub set_out : (input mesh : Layout) (flips images bad : List Edge) → flips ≡ [] → images ≡ [] → mesh ≡ input → AreBad input.points input.edges bad → IsOnTheWay input.points input.edges flips images mesh bad
-set_out input mesh flips images bad no_flips no_images same B = record {
-  of_points = ap (λ (v : Layout). v.points) same;
-  traced = subst₂ (λ xs ys. IsTraced input.points input.edges xs ys mesh.edges) (sym no_flips) (sym no_images) (ap (λ (v : Layout). v.edges) (sym same));
-  bad_edges = subst (λ (v : Layout). AreBad v.points v.edges bad) (sym same) B;
-}
-
 -- ---- one flip more
 traced_on : (points : List Point) (from flips images to : List Edge) (e f : Edge) (next : List Edge) → IsTraced points from flips images to → IsLeastBad points to e → IsFlip points to e f next → IsTraced points from (flips ++ e ∷ []) (images ++ f ∷ []) next
 traced_on points from [] [] to e f next same least F = (next, subst (λ es. IsLeastBad points es e) (sym same) least, subst (λ es. IsFlip points es e f next) (sym same) F, refl)
@@ -30,20 +22,20 @@ traced_on points from [] (y ∷ ys) to e f next t least F = absurd t
 traced_on points from (x ∷ xs) [] to e f next t least F = absurd t
 traced_on points from (x ∷ xs) (y ∷ ys) to e f next (U, first, G, more) least F = (U, first, G, traced_on points U xs ys to e f next more least F)
 
-pub way_on : (points : List Point) (input flips images : List Edge) (mesh next : Layout) (bad bad' : List Edge) (e f : Edge) → IsOnTheWay points input flips images mesh bad → IsFirst bad e → next.points ≡ mesh.points → IsFlip mesh.points mesh.edges e f next.edges → AreBad next.points next.edges bad' → IsOnTheWay points input (flips ++ e ∷ []) (images ++ f ∷ []) next bad'
-way_on points input flips images mesh next bad bad' e f way h same F B = record {
+pub way_on : (points : List Point) (input flips flips' images images' : List Edge) (mesh next : Layout) (bad bad' : List Edge) (e f : Edge) → IsOnTheWay points input flips images mesh bad → IsFirst bad e → next.points ≡ mesh.points → IsFlip mesh.points mesh.edges e f next.edges → AreBad next.points next.edges bad' → flips' ≡ flips ++ e ∷ [] → images' ≡ images ++ f ∷ [] → IsOnTheWay points input flips' images' next bad'
+way_on points input flips flips' images images' mesh next bad bad' e f way h same F B more more' = record {
   of_points = same ∙ way.of_points;
   traced =
-      traced_on points input flips images mesh.edges e f next.edges way.traced (subst (λ ps. IsLeastBad ps mesh.edges e) way.of_points (least_first mesh.points mesh.edges bad e way.bad_edges h))
-      (subst (λ ps. IsFlip ps mesh.edges e f next.edges) way.of_points F);
+      subst₂ (λ xs ys. IsTraced points input xs ys next.edges) (sym more) (sym more')
+      (traced_on points input flips images mesh.edges e f next.edges way.traced (subst (λ ps. IsLeastBad ps mesh.edges e) way.of_points (least_first mesh.points mesh.edges bad e way.bad_edges h))
+      (subst (λ ps. IsFlip ps mesh.edges e f next.edges) way.of_points F));
   bad_edges = B;
 }
 
 -- and the number of flips that may still come falls
-pub fewer_left : (points : List Point) (input flips images : List Edge) (e : Edge) (mesh : Layout) (bad : List Edge) → IsTriangulated points input → IsOnTheWay points input (flips ++ e ∷ []) images mesh bad → length points * (length points - 1) / 2 - length (flips ++ e ∷ []) < length points * (length points - 1) / 2 - length flips
-fewer_left points input flips images e mesh bad I way =
-    less _ (length flips) (length (flips ++ e ∷ [])) (one_longer flips e)
-    (run_length points I.placed input (flips ++ e ∷ []) mesh.edges I.triangulation (traced_run points input (flips ++ e ∷ []) images mesh.edges way.traced))
+pub fewer_left : (points : List Point) (input flips flips' images : List Edge) (e : Edge) (mesh : Layout) (bad : List Edge) → IsTriangulated points input → IsOnTheWay points input flips' images mesh bad → flips' ≡ flips ++ e ∷ [] → length points * (length points - 1) / 2 - length flips' < length points * (length points - 1) / 2 - length flips
+fewer_left points input flips flips' images e mesh bad I way more =
+    less _ (length flips) (length flips') (ap length more ∙ one_longer flips e) (run_length points I.placed input flips' mesh.edges I.triangulation (traced_run points input flips' images mesh.edges way.traced))
   where
     less : (most old new : ℕ) → new ≡ old + 1 → new ≤ most → most - new < most - old
     less most old new i l = omega arith
