@@ -4,3 +4,4 @@ mod Queues
 mod Runs
 mod Sets
 mod Touched
+mod TracedRuns

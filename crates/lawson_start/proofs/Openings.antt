@@ -1,5 +1,5 @@
 -- The runs of all inputs, one after the other, and the centre in which they end.
-use Rattle.std.proofs.Common.{◌≡◌, ◌∙◌, ℕ, zero, suc, ◌+◌, ◌<◌, List, [], ◌∷◌, ◌++◌, length, map, take, get_or, slice_get, Some, Contains, refl, sym, subst, arith}
+use Rattle.std.proofs.Common.{◌≡◌, ◌∙◌, ℕ, zero, suc, ◌+◌, ◌-◌, ◌*◌, ◌/◌, ◌<◌, ◌≤◌, List, [], ◌∷◌, ◌++◌, length, map, take, get_or, slice_get, Some, Contains, refl, sym, subst, arith}
 use Rattle.std.specs.List.{AllZip}
 use Rattle.std.proofs.lemmas.List.{take_more}
 use Rattle.std.proofs.lemmas.Option.{get_or_from_slice_get, slice_get-get_or, slice_get_within}
@@ -13,6 +13,9 @@ use Rattle.flip_list_law.specs.FlipLists.{flipped_edges}
 use Rattle.round_pack.specs.Tracks.{FlipTrack}
 use Rattle.lawson_law.specs.LawsonRuns.{IsLawsonRun, IsLawsonRunLonger, IsOpening}
 use Rattle.lawson_law.proofs.NoBad.{runs_end_in_one}
+use Rattle.lawson_law.proofs.OneRun.{longer_means}
+use Rattle.lawson_law.proofs.RunExists.{run_exists}
+use Rattle.lawson_law.proofs.Sinking.{run_length}
 use Rattle.tri_check.specs.Layouts.{Layout}
 use Rattle.tri_check.specs.Problems.{IsProblem}
 use Rattle.lawson_start.specs.declared.fault.StartFault.{StartFault}
@@ -82,3 +85,20 @@ is_start points (x ∷ xs) budget centre (y ∷ ys) track problem z h p e = reco
 
     run : AllZip (IsRunTrack points centre.edges) (x ∷ xs) (y ∷ ys)
     run = subst (λ es. AllZip (IsRunTrack points es) (x ∷ xs) (y ∷ ys)) (sym e) (run_tracks points problem.placed budget x track (problem.triangulated x (0, omega arith, refl)) first (x ∷ xs) (y ∷ ys) problem.triangulated z)
+
+-- ---- a budget that is enough
+pub input_at : (points : List Point) (inputs : List (List Edge)) (t : ℕ) (input : List Edge) → IsProblem points inputs → slice_get inputs t ≡ Some input → IsTriangulation points input
+input_at points inputs t input problem h = problem.triangulated input (t, slice_get_within inputs t input h, get_or_from_slice_get inputs t input input h)
+
+never_longer : (points : List Point) → ArePlaced points → (from : List Edge) → IsTriangulation points from → (budget : ℕ) → length points * (length points - 1) / 2 ≤ budget → ¬ IsLawsonRunLonger points from budget
+never_longer points P from I budget l longer = over (run_exists points P from I)
+  where
+    apart : (most budget count : ℕ) → most ≤ budget → budget < count → count ≤ most → ⊥
+    apart most budget count i j k = omega arith
+
+    over : (flips to : List Edge) × IsLawsonRun points from flips to → ⊥
+    over (flips, to, run) = apart _ budget (length flips) l (longer_means points P from flips to budget I run longer) (run_length points P from flips to I run.0)
+
+pub only_memory : (points : List Point) (inputs : List (List Edge)) (budget : ℕ) (fault : StartFault) → IsProblem points inputs → length points * (length points - 1) / 2 ≤ budget → IsStartFault points inputs budget fault → fault ≡ OutOfMemory
+only_memory points inputs budget OutOfMemory problem l h = refl
+only_memory points inputs budget (FlipBudget t) problem l h = absurd (never_longer points problem.placed h.input (input_at points inputs t h.input problem h.there) budget l h.longer)

@@ -20,7 +20,7 @@ flipped_on : (flips : List Flip) (x : Flip) → flipped_edges (flips ++ x ∷ []
 flipped_on [] x = refl
 flipped_on (y ∷ ys) x = ap (λ es. y.edge ∷ es) (flipped_on ys x)
 
-one_longer : (es : List Edge) (e : Edge) → length (es ++ e ∷ []) ≡ length es + 1
+pub one_longer : (es : List Edge) (e : Edge) → length (es ++ e ∷ []) ≡ length es + 1
 one_longer [] e = refl
 one_longer (x ∷ xs) e = let h = one_longer xs e in omega arith
 
@@ -31,7 +31,7 @@ begun points edges budget track h = subst (IsBegun points edges budget budget) (
 pub bad_first : (mesh : Layout) (bad : List Edge) (e : Edge) → AreBad mesh.points mesh.edges bad → IsFirst bad e → IsBad mesh.points mesh.edges e
 bad_first mesh bad e B h = (B.members e).0 h.member
 
-least_first : (points : List Point) (edges bad : List Edge) (e : Edge) → AreBad points edges bad → IsFirst bad e → IsLeastBad points edges e
+pub least_first : (points : List Point) (edges bad : List Edge) (e : Edge) → AreBad points edges bad → IsFirst bad e → IsLeastBad points edges e
 least_first points edges bad e B h = ((B.members e).0 h.member, λ f b l. h.first f ((B.members f).1 b) l)
 
 pub begun_on : (points : List Point) (input : List Edge) (budget left : ℕ) (old new : FlipTrack) (mesh : Layout) (bad : List Edge) (e : Edge) → left ≢ 0 → IsBegun points input budget left old → Stands old mesh bad → IsFirst bad e → Follows old new e → IsBegun points input budget (left - 1) new

@@ -4,7 +4,6 @@ use Rattle.geo_orient.specs.declared.Point.{Point}
 use Rattle.edge_table.specs.declared.edge.Edge.{Edge}
 use Rattle.edge_table.specs.Edges.{edge, RemovesEdge}
 use Rattle.edge_table.proofs.Edges.{edge_of, edge_discrete, dec_contains}
-use Rattle.edge_table.proofs.Ascending.{same_members}
 use Rattle.tri_theory.specs.Points.{ArePlaced}
 use Rattle.tri_theory.specs.Triangulations.{AreJoined, Crosses, IsTriangulation}
 use Rattle.tri_theory.specs.Flips.{IsFlip}
@@ -196,19 +195,3 @@ module _ (points : List Point) (P : ArePlaced points) (T U : List Edge) (e f : E
       by_side g (no n) (no m) (yes i) _ = subst At (sym i) D.cd
       by_side g (no n) (no m) (no l) (yes i) = subst At (sym i) D.da
       by_side g (no n) (no m) (no l) (no k) = at_image g (record { ab = n; bc = m; cd = l; da = k }) (edge_discrete g f)
-
--- ---- one flip leads to one next edge set
-pub one_next : (points : List Point) → ArePlaced points → (T : List Edge) → IsTriangulation points T → (e f g : Edge) (U V : List Edge) → IsFlip points T e f U → IsFlip points T e g V → U ≡ V
-one_next points P T I e f g U V F G =
-    same_members U V F.ascending G.ascending (λ i. (λ k. (G.members i).1 (to i ((F.members i).0 k)), λ k. (F.members i).1 (from i ((G.members i).0 k))))
-  where
-    same : f ≡ g
-    same = one_image_of points P T I e f g F.flips G.flips
-
-    to : (i : Edge) → (Contains T i × (i ≢ e)) ⊎ (i ≡ f) → (Contains T i × (i ≢ e)) ⊎ (i ≡ g)
-    to i (inl k) = inl k
-    to i (inr k) = inr (k ∙ same)
-
-    from : (i : Edge) → (Contains T i × (i ≢ e)) ⊎ (i ≡ g) → (Contains T i × (i ≢ e)) ⊎ (i ≡ f)
-    from i (inl k) = inl k
-    from i (inr k) = inr (k ∙ sym same)

@@ -5,7 +5,7 @@ use Rattle.geo_orient.specs.declared.Point.{Point}
 use Rattle.edge_table.specs.declared.edge.Edge.{Edge}
 use Rattle.flip_list_law.specs.FlipLists.{flipped_edges}
 use Rattle.round_pack.specs.Tracks.{FlipTrack}
-use Rattle.lawson_law.specs.LawsonRuns.{IsLawsonRun, IsLawsonRunLonger, IsOpening}
+use Rattle.lawson_law.specs.LawsonRuns.{IsTraced, IsLawsonRun, IsLawsonRunLonger, IsOpening}
 use Rattle.lawson_start.specs.declared.centre.Start.{Start}
 use Rattle.lawson_start.specs.declared.fault.StartFault.{StartFault}
 use Rattle.lawson_start.specs.declared.fault.StartFault.TheVariants.{FlipBudget, OutOfMemory}
@@ -39,3 +39,17 @@ pub record IsOverBudget (points : List Point) (inputs : List (List Edge)) (budge
 abbrev pub IsStartFault : List Point → List (List Edge) → ℕ → StartFault → Type 0
 IsStartFault points inputs budget (FlipBudget t) = IsOverBudget points inputs budget t
 IsStartFault points inputs budget OutOfMemory = Unit {0}
+
+-- the flips are the whole run of the input with the place t
+pub record IsWholeRun (points : List Point) (inputs : List (List Edge)) (t : ℕ) (flips : List Edge) : Type 0 where
+  pub input : List Edge
+  pub to : List Edge
+  pub there : slice_get inputs t ≡ Some input
+  pub run : IsLawsonRun points input flips to
+
+-- the images are those of the flips in order, where the run of the input with the place t has these flips
+pub record AreImages (points : List Point) (inputs : List (List Edge)) (t : ℕ) (flips images : List Edge) : Type 0 where
+  pub input : List Edge
+  pub to : List Edge
+  pub there : slice_get inputs t ≡ Some input
+  pub traced : IsTraced points input flips images to

@@ -8,9 +8,10 @@ use Rattle.tri_check.specs.Layouts.{Layout}
 use Rattle.flip_list_law.specs.FlipLists.{flipped_edges}
 use Rattle.flip_mesh.specs.declared.mesh.Quad.{Quad}
 use Rattle.round_pack.specs.Tracks.{FlipTrack, flip}
-use Rattle.lawson_law.specs.LawsonRuns.{IsBad, LawsonRunsTo, IsLawsonRun, IsLawsonRunLonger}
+use Rattle.lawson_law.specs.LawsonRuns.{IsBad, HasNoBadEdge, LawsonRunsTo, IsTraced, IsLawsonRun, IsLawsonRunLonger}
 use Rattle.lawson_start.specs.declared.fault.StartFault.{StartFault}
 use Rattle.lawson_start.specs.declared.fault.StartFault.TheVariants.{FlipBudget, OutOfMemory}
+use Rattle.lawson_start.specs.declared.traced.Trace.{Trace}
 
 -- a member, and none is before it
 pub record IsFirst (edges : List Edge) (e : Edge) : Type 0 where
@@ -87,3 +88,15 @@ pub record IsLongAt (points : List Point) (inputs : List (List Edge)) (budget t 
 abbrev pub IsFaultAt : List Point → List (List Edge) → ℕ → ℕ → StartFault → Type 0
 IsFaultAt points inputs budget t (FlipBudget s) = (s ≡ t) × IsLongAt points inputs budget t
 IsFaultAt points inputs budget t OutOfMemory = Unit {0}
+
+-- the flips with their images are the run of an input up to here, and the set has the bad edges where they led
+pub record IsOnTheWay (points : List Point) (input flips images : List Edge) (mesh : Layout) (bad : List Edge) : Type 0 where
+  pub of_points : mesh.points ≡ points
+  pub traced : IsTraced points input flips images mesh.edges
+  pub bad_edges : AreBad mesh.points mesh.edges bad
+
+-- the trace is the whole run of an input
+pub record IsTraceOf (points : List Point) (input : List Edge) (trace : Trace) : Type 0 where
+  pub to : List Edge
+  pub traced : IsTraced points input trace.flips trace.images to
+  pub last : HasNoBadEdge points to

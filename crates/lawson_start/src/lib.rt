@@ -8,7 +8,11 @@ mod opening;
 mod queue;
 mod run;
 mod threads;
+mod traced;
+mod tracing;
 
 pub use centre::Start;
 pub use fault::StartFault;
 pub use opening::start;
+pub use traced::Trace;
+pub use tracing::trace;

@@ -1,7 +1,8 @@
 // The first centre of an instance, with a track from each input to it.
-ghost use Rattle.std.specs.Prelude.{◌<◌, length, ℕ, List, slice_get, Some, ◌≡◌, IfOk, IfErr};
+ghost use Rattle.std.specs.Prelude.{◌<◌, ◌≤◌, ◌-◌, ◌*◌, ◌/◌, length, ℕ, List, slice_get, Some, ◌≡◌, IfOk, IfErr};
 ghost use Rattle.std.specs.List.{AllZip};
 ghost use Rattle.edge_table.specs.declared.edge.Edge.{Edge};
+ghost use Rattle.lawson_start.specs.declared.fault.StartFault.TheVariants as start_fault;
 ghost use Rattle.lawson_start.specs.Starts.{IsStart, IsStartFault};
 ghost use Rattle.lawson_start.specs.Steps.{IsRunOf, IsFaultAt};
 
@@ -38,10 +39,11 @@ fn tracks_of(alloc: Global, inst: &Instance, budget: u64) -> Result<TrackList, S
 
 /// The triangulation in which no edge is bad, and from each input the run to it: the flips of the least bad edge in edge order, until none is bad. An edge is bad where it flips and its image lies under it, that is where the opposite corner is strictly inside the circle of one of its two triangles, or on it while the image has the least of the four numbers as an end.
 ///
-/// A run is followed for as many flips as the budget allows, and no further. With m edges an input takes O(m log m) steps, and each of its flips O(log m) more, beside what the track takes to append it.
+/// A run is followed for as many flips as the budget allows, and no further. A budget of `run_bound` of `lawson_law` is enough for each run. With m edges an input takes O(m log m) steps, and each of its flips O(log m) more, beside what the track takes to append it.
 pub fn start(alloc: Global, inst: &Instance, budget: u64) -> Result<Start, StartFault>
     ensures ok { IfOk result (IsStart inst.now.points inst.now.inputs budget) }
     ensures err { IfErr result (IsStartFault inst.now.points inst.now.inputs budget) }
+    ensures enough { length inst.now.points * (length inst.now.points - 1) / 2 ≤ budget → IfErr result (λ fault. fault ≡ start_fault.OutOfMemory) }
 {
     let _ = inst.count();
     let tracks = tracks_of(alloc, inst, budget)?;

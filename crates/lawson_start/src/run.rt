@@ -1,7 +1,8 @@
 // The run from a triangulation: flips of the least bad edge, until none is bad.
 ghost use Rattle.std.specs.Prelude.{◌≡◌, MatchOption, IfOk, OnOk};
+ghost use Rattle.tri_theory.specs.Flips.{IsFlip};
 ghost use Rattle.lawson_law.specs.LawsonRuns.{IsBad, IsLawsonRunLonger};
-ghost use Rattle.lawson_start.specs.Steps.{AreBad, FlipsOn, Stands, Follows, IsRunOf};
+ghost use Rattle.lawson_start.specs.Steps.{AreBad, Stands, Follows, IsRunOf};
 
 use crate::bad::{bad_edges, retest, retest_sides};
 use crate::queue::EdgeQueue;
@@ -11,12 +12,12 @@ use round_pack::Track;
 use std::alloc::{AllocError, Global};
 use tri_check::Triang;
 
-// Flips a bad edge. Beside the edge and its image only the sides of the quadrilateral may turn bad by that, or good.
-fn flip(mesh: &mut Mesh, bad: &mut EdgeQueue, e: Edge) -> Result<(), AllocError>
+// Flips a bad edge, and answers its image. Beside the edge and its image only the sides of the quadrilateral may turn bad by that, or good.
+pub(crate) fn flip(mesh: &mut Mesh, bad: &mut EdgeQueue, e: Edge) -> Result<Edge, AllocError>
     requires set { AreBad mesh.old.points mesh.old.edges bad.old }
     requires here { IsBad mesh.old.points mesh.old.edges e }
     ensures points { mesh.new.points ≡ mesh.old.points }
-    ensures edges { FlipsOn mesh.old.points mesh.old.edges e mesh.new.edges }
+    ensures edges { IfOk result (λ f. IsFlip mesh.old.points mesh.old.edges e f mesh.new.edges) }
     ensures set { OnOk result (AreBad mesh.new.points mesh.new.edges bad.new) }
 {
     let _ = mesh.points();
@@ -26,7 +27,7 @@ fn flip(mesh: &mut Mesh, bad: &mut EdgeQueue, e: Edge) -> Result<(), AllocError>
             bad.remove(e);
             retest(mesh, bad, image)?;
             retest_sides(mesh, bad, q)?;
-            Ok(())
+            Ok(image)
         }
         None => unreachable!(),
     }

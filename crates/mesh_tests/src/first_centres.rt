@@ -1,7 +1,8 @@
-// Points on circles with ample memory: which flips lead to the centre, and which input is past the budget.
+// Points on circles with ample memory: which flips lead to the centre, with which images, and which input is past the budget.
 use lawson_start::*;
-use edge_table::{Edge, Rounds};
+use edge_table::{Edge, EdgeSeq, Rounds};
 use geo_orient::Point;
+use lawson_law::run_bound;
 use std::alloc::{AllocError, Global};
 use std::process::Abort;
 use std::sync::Arc;
@@ -57,8 +58,12 @@ fn edge(rt: &impl Abort, a: u32, b: u32) -> Edge {
     Edge::of(a, b).expect(rt, "two points")
 }
 
+fn has_only(edges: &EdgeSeq, e: Edge) -> bool {
+    edges.len() == 1 && *edges.at(0) == e
+}
+
 fn is_round(rounds: &Rounds, i: usize, e: Edge) -> bool {
-    i < rounds.len() && rounds.at(i).len() == 1 && *rounds.at(i).at(0) == e
+    i < rounds.len() && has_only(rounds.at(i), e)
 }
 
 // Whether the rounds have one edge each, from one corner to these others in turn.
@@ -123,5 +128,23 @@ fn the_first_input_past_the_budget_is_named(rt: HostRuntime) -> Result<(), Fail>
         Err(fault) => assert!(rt; fault == StartFault::FlipBudget(1)),
         Ok(_) => assert!(rt; false, "a flip past the budget"),
     }
+    Ok(())
+}
+
+#[test]
+fn the_trace_of_the_square_has_one_flip_with_its_image(rt: HostRuntime) -> Result<(), Fail> {
+    let mut inputs = fan(rt.alloc(), 0, &[2])?;
+    with_diagonal(rt.alloc(), &mut inputs, 1, 3)?;
+    let inst = instance(rt.alloc(), points_of(rt.alloc(), &SQUARE)?, inputs)?;
+    assert!(rt; 1 < inst.inputs());
+    let traced = trace(rt.alloc(), &inst, 1)?;
+    assert!(rt; has_only(&traced.flips, edge(&rt, 1, 3)));
+    assert!(rt; has_only(&traced.images, edge(&rt, 0, 2)));
+    Ok(())
+}
+
+#[test]
+fn four_points_allow_six_flips(rt: HostRuntime) -> Result<(), Fail> {
+    assert_eq!(rt; run_bound(4), 6);
     Ok(())
 }

@@ -1,7 +1,7 @@
 use Rattle.std.proofs.Common.{◌∙◌, sym, subst₂}
 use Rattle.tri_theory.specs.Flips.{Flips, IsFlip}
 use Rattle.lawson_start.proofs.Corners.{bad_flips}
-use Rattle.lawson_start.proofs.Touched.{one_next}
+use Rattle.lawson_law.proofs.OneRun.{one_next}
 use Rattle.lawson_start.proofs.run.step.Goals as goal
 
 pub append-requires-clause-flips : goal.append-requires-clause-flips
@@ -17,6 +17,6 @@ returns-clause-stands c =
       of_points = c.append.ensures.points ∙ ps ∙ sym c.in_ok-flip.ensures.points;
       end =
           one_next _ I.placed _ I.triangulation c.args.e _ _ _ _ (subst₂ (λ p t. IsFlip p t c.args.e c.append.result c.append.new.self.end) ps es c.append.ensures.end)
-          c.in_ok-flip.ensures.edges.1;
+          c.in_ok-flip.ensures.edges;
       bad_edges = c.in_ok-flip.ensures.set;
     }
