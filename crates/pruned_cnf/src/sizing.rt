@@ -3,20 +3,27 @@ ghost use Rattle.std.specs.Prelude.{◌≡◌, ◌<◌, ◌≤◌, ◌+◌, ◌*
 ghost use Rattle.std.specs.List.{range_with_len};
 ghost use Rattle.formula_parts.specs.Building.{pair_at};
 ghost use Rattle.pruned_cnf.specs.Queries.{clauses_in};
-ghost use Rattle.pruned_cnf.specs.Sizes.{crossing_count, flip_count, change_count, size_of_flip};
+ghost use Rattle.pruned_cnf.specs.Sizes.{crossing_count, flip_count, change_count, is_live_pair, size_of_flip};
 
 use crate::Query;
+
+// Whether both segments of the pair with the number `m` can be there after `t` rounds.
+fn is_live_pair(query: &Query, t: u32, m: u32) -> bool
+    requires { m < length query.now.frame.crossings }
+    ensures { result ≡ is_live_pair query.now t (pair_at query.now.frame.crossings m) }
+{
+    let (a, b) = query.lists().crossing(m);
+    query.is_live(t, a) && query.is_live(t, b)
+}
 
 // Those of the pairs that cross, in a layer.
 fn crossings_at(query: &Query, t: u32) -> u64
     ensures count { result ≡ crossing_count query.now t }
     ensures few { result ≤ 16_777_216 }
 {
-    let lists = query.lists();
     let mut count: u64 = 0;
-    for m in 0..lists.crossings() {
-        let (a, b) = lists.crossing(m);
-        count += u64::from(query.is_live(t, a) && query.is_live(t, b));
+    for m in 0..query.lists().crossings() {
+        count += u64::from(is_live_pair(query, t, m));
     }
     count
 }
@@ -128,6 +135,7 @@ fn rounds_in(query: &Query) -> u64
 pub fn size(query: &Query) -> u64
     ensures { result ≡ length (clauses_in query.now) }
 {
+    let _ = query.lists();
     let ends = query.from().len() as u64 + query.to().len() as u64;
     ends + crossings_in(query) + rounds_in(query)
 }
