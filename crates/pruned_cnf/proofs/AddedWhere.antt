@@ -10,33 +10,28 @@ module _ (made : Formula) (b test : Bool) (C : Clause) (is : test ≡ b) where
   where_true = cond b (C ∷ []) []
 
   takes_it : test ≡ true → Takes made where_true → Takes made (C ∷ [])
-  takes_it yes T = subst (λ b. Takes made (cond b (C ∷ []) [])) (sym is ∙ yes) T
+  takes_it holds T = subst (λ b. Takes made (cond b (C ∷ []) [])) (sym is ∙ holds) T
 
   pub fits_where : test ≡ true → Takes made where_true → (c : Clause) → c ≡ C → IsClause made.variables c
-  fits_where yes T c e = subst (IsClause made.variables) (sym e) (single_fits made C (takes_it yes T))
+  fits_where holds T c e = subst (IsClause made.variables) (sym e) (single_fits made C (takes_it holds T))
 
   pub room_where : test ≡ true → Takes made where_true → length made.clauses < 2_000_000_000
-  room_where yes T = single_room made C (takes_it yes T)
+  room_where holds T = single_room made C (takes_it holds T)
 
   pub added_where : test ≡ true → (c : Clause) (new : Formula) → c ≡ C → new ≡ adding made (c ∷ []) → new ≡ adding made where_true
-  added_where yes c new e h = h ∙ ap (λ c. adding made (c ∷ [])) e ∙ ap (λ b. adding made (cond b (C ∷ []) [])) (sym (sym is ∙ yes))
+  added_where holds c new e h = h ∙ ap (λ c. adding made (c ∷ [])) e ∙ ap (λ b. adding made (cond b (C ∷ []) [])) (sym (sym is ∙ holds))
 
   pub none_where : test ≡ false → made ≡ adding made where_true
-  none_where not = adding_none made ∙ ap (λ b. adding made (cond b (C ∷ []) [])) (sym (sym is ∙ not))
+  none_where fails = adding_none made ∙ ap (λ b. adding made (cond b (C ∷ []) [])) (sym (sym is ∙ fails))
 
--- ---- lists that are put one after the other
+-- ---- lists that are put at the end, one after the other
 module _ {X : Type 0} where
-  pub two_put : (l0 l1 l2 a b : List X) → l1 ≡ l0 ++ a → l2 ≡ l1 ++ b → l2 ≡ l0 ++ a ++ b
+  pub two_put : (l0 l1 l2 a b : List X) → l1 ≡ l0 ++ a → l2 ≡ l1 ++ b → l2 ≡ l0 ++ (a ++ b)
   two_put l0 l1 l2 a b e f = f ∙ ap (λ l. l ++ b) e ∙ append_assoc l0 a b
 
-  pub three_put : (l0 l1 l2 l3 a b c : List X) → l1 ≡ l0 ++ a → l2 ≡ l1 ++ b → l3 ≡ l2 ++ c → l3 ≡ l0 ++ a ++ b ++ c
-  three_put l0 l1 l2 l3 a b c e f g = two_put l0 l1 l3 a (b ++ c) e (two_put l1 l2 l3 b c f g)
+  pub four_put : (l0 l1 l2 l3 l4 a b c d : List X) → l1 ≡ l0 ++ a → l2 ≡ l1 ++ b → l3 ≡ l2 ++ c → l4 ≡ l3 ++ d → l4 ≡ l0 ++ (a ++ (b ++ (c ++ (d ++ []))))
+  four_put l0 l1 l2 l3 l4 a b c d e f g h = two_put l0 l1 l4 a (b ++ (c ++ (d ++ []))) e (two_put l1 l2 l4 b (c ++ (d ++ [])) f (two_put l2 l3 l4 c (d ++ []) g (h ∙ ap (λ z. l3 ++ z) (sym (append-nil d)))))
 
-  pub four_put : (l0 l1 l2 l3 l4 a b c d : List X) → l1 ≡ l0 ++ a → l2 ≡ l1 ++ b → l3 ≡ l2 ++ c → l4 ≡ l3 ++ d → l4 ≡ l0 ++ a ++ b ++ c ++ d
-  four_put l0 l1 l2 l3 l4 a b c d e f g h = two_put l0 l1 l4 a (b ++ c ++ d) e (three_put l1 l2 l3 l4 b c d f g h)
-
-  pub five_put : (l0 l1 l2 l3 l4 l5 a b c d r : List X) → l1 ≡ l0 ++ a → l2 ≡ l1 ++ b → l3 ≡ l2 ++ c → l4 ≡ l3 ++ d → l5 ≡ l4 ++ r → l5 ≡ l0 ++ a ++ b ++ c ++ d ++ r
-  five_put l0 l1 l2 l3 l4 l5 a b c d r e f g h i = two_put l0 l1 l5 a (b ++ c ++ d ++ r) e (four_put l1 l2 l3 l4 l5 b c d r f g h i)
-
-  pub four_flat : (l0 l4 a b c d : List X) → l4 ≡ l0 ++ a ++ b ++ c ++ d → l4 ≡ l0 ++ a ++ b ++ c ++ d ++ []
-  four_flat l0 l4 a b c d e = e ∙ ap (λ z. l0 ++ a ++ b ++ c ++ z) (sym (append-nil d))
+  pub five_in_all : (l0 l1 l2 l3 l4 l5 a b c d r : List X) → l0 ≡ [] → l1 ≡ l0 ++ a → l2 ≡ l1 ++ b → l3 ≡ l2 ++ c → l4 ≡ l3 ++ d → l5 ≡ l4 ++ r → l5 ≡ a ++ b ++ c ++ d ++ r
+  five_in_all l0 l1 l2 l3 l4 l5 a b c d r z e f g h i =
+      i ∙ ap (λ l. l ++ r) (h ∙ ap (λ l. l ++ d) (g ∙ ap (λ l. l ++ c) (f ∙ ap (λ l. l ++ b) (e ∙ ap (λ l. l ++ a) z))))

@@ -22,15 +22,15 @@ use Rattle.pruned_cnf.specs.Groups.{changed, is_change_of, changing_flips, flip_
 use Rattle.pruned_cnf.specs.Queries.{Query, flip_in, is_live_flip_in}
 use Rattle.pruned_cnf.proofs.Chosen.{map_one, none_between, none_after}
 
-abbrev nothing : Option ℕ
+abbrev pub nothing : Option ℕ
 nothing = None
 
 -- ---- the making of the chains, from the last flip to the first
-pub chains_begun : (F : Frame) (change : Change) (firsts nexts : List (Option ℕ)) (s f : ℕ) → firsts ≡ replicate s nothing → nexts ≡ replicate f nothing → s ≡ length F.segments → f ≡ length F.flips → AreChained F change firsts nexts f
-chains_begun F change firsts nexts s f es ef ls lf = record {
+pub chains_begun : (F : Frame) (change : Change) (firsts nexts : List (Option ℕ)) (s f i : ℕ) → firsts ≡ replicate s nothing → nexts ≡ replicate f nothing → s ≡ length F.segments → f ≡ length F.flips → i ≡ length F.flips → AreChained F change firsts nexts i
+chains_begun F change firsts nexts s f i es ef ls lf li = record {
   segments = ap length es ∙ length-replicate s nothing ∙ ls;
   flips = ap length ef ∙ length-replicate f nothing ∙ lf;
-  first = λ e h. subst (IsNext (is_change_of change (edge_at F.segments e)) F.flips f) (sym (ap (λ xs. get_or xs e nothing) es ∙ get_or-replicate s e nothing nothing (omega arith))) (λ j l r. absurd (omega arith));
+  first = λ e h. subst (IsNext (is_change_of change (edge_at F.segments e)) F.flips i) (sym (ap (λ xs. get_or xs e nothing) es ∙ get_or-replicate s e nothing nothing (omega arith))) (λ j l r. absurd (omega arith));
   next = λ n l h. absurd (omega arith);
 }
 

@@ -62,6 +62,7 @@ fn clause_of(
     e: u32,
 ) -> Result<Clause, AllocError>
     requires chain { IsChain numbering.now.frame chain.now.change chain.now }
+    requires rounds { t < 400_000 }
     requires round { t < numbering.now.rounds }
     requires within { e < length numbering.now.frame.segments }
     ensures { IfOk result (λ clause. clause ≡ change_clause numbering.now t chain.now.change (edge_at numbering.now.frame.segments e)) }

@@ -15,6 +15,7 @@ use std::alloc::AllocError;
 
 // Puts at the end that the segment with the number `n` is there before round `t` and after it, where it can be.
 fn push_stay(lits: &mut Clause, numbering: &Numbering, t: u32, n: u32) -> Result<(), AllocError>
+    requires rounds { t < 400_000 }
     requires round { t < numbering.now.rounds }
     requires within { n < length numbering.now.frame.segments }
     ensures { OnOk result (lits.new ≡ lits.old ++ stays numbering.now t (edge_at numbering.now.frame.segments n)) }

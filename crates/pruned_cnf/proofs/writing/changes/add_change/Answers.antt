@@ -8,6 +8,9 @@ use Rattle.pruned_cnf.proofs.writing.changes.add_change.Goals as goal
 pub layer_of-layer-requires : goal.layer_of-layer-requires
 layer_of-layer-requires c = let r = c.lists_of-lists.ensures.query.rounds in let l = c.requires.round in omega arith
 
+pub clause_of-requires-clause-rounds : goal.clause_of-requires-clause-rounds
+clause_of-requires-clause-rounds c = let r = c.lists_of-lists.ensures.query.rounds in let l = c.requires.round in omega arith
+
 pub add-requires-clause-fits : goal.add-requires-clause-fits
 add-requires-clause-fits c =
     let q = c.args.numbering.now in

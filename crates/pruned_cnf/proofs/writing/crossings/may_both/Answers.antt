@@ -24,5 +24,5 @@ returns-else-can_be_there c =
     let q = c.args.numbering.now in
     let g = c.crossing-g.result in
     let is : pair_at q.frame.crossings c.args.n ≡ linked q.frame.segments g = subst (λ (F : Frame). pair_at F.crossings c.args.n ≡ linked F.segments g) c.lists_of.ensures.lists c.crossing-g.ensures.pair in
-    sym (ap (λ b. b && live_in q c.args.t (edge_at q.frame.segments g.1)) (sym c.can_be_there.ensures ∙ c.if-can_be_there.false))
+    c.if-can_be_there.false ∙ sym (ap (λ b. b && live_in q c.args.t (edge_at q.frame.segments g.1)) (sym c.can_be_there.ensures ∙ c.if-can_be_there.false))
     ∙ ap (λ (p : Pair). live_in q c.args.t p.0 && live_in q c.args.t p.1) (sym is)

@@ -6,7 +6,7 @@ use Rattle.formula_law.specs.Formula.{sides}
 use Rattle.formula_parts.specs.Building.{no_pair, pair_at}
 use Rattle.formula_parts.specs.Lists.{edge_at, linked, pair_of}
 use Rattle.pruned_cnf.specs.Groups.{place_literal, demands_in, stays}
-use Rattle.pruned_cnf.proofs.AddedWhere.{five_put}
+use Rattle.pruned_cnf.proofs.AddedWhere.{five_in_all}
 use Rattle.pruned_cnf.proofs.writing.flips.demands.Goals as goal
 
 pub flip-g-requires : goal.flip-g-requires
@@ -48,8 +48,7 @@ returns c =
     let x3 = place_literal q t f false in
     let x4 = place_literal q (t + 1) f true in
     let rest = flat_map (stays q t) (sides q.frame (pair_of c.segment.result c.segment-2.result)) in
-    five_put c.make-lits.result c.push_if_live.new.lits c.push_if_live-2.new.lits c.push_if_live-3.new.lits c.push_if_live-4.new.lits c.push_sides.new.lits x1 x2 x3 x4 rest
-    c.in_ok-push_if_live.ensures c.in_ok-push_if_live-2.ensures c.in_ok-push_if_live-3.ensures c.in_ok-push_if_live-4.ensures c.in_ok-push_sides.ensures
-    ∙ ap (λ ls. ls ++ x1 ++ x2 ++ x3 ++ x4 ++ rest) c.make-lits.ensures
+    five_in_all c.make-lits.result c.push_if_live.new.lits c.push_if_live-2.new.lits c.push_if_live-3.new.lits c.push_if_live-4.new.lits c.push_sides.new.lits x1 x2 x3 x4 rest
+    c.make-lits.ensures c.in_ok-push_if_live.ensures c.in_ok-push_if_live-2.ensures c.in_ok-push_if_live-3.ensures c.in_ok-push_if_live-4.ensures c.in_ok-push_sides.ensures
     ∙ (λ i. x1 ++ x2 ++ x3 ++ x4 ++ flat_map (stays q t) (sides q.frame (pair_of (first i) (second i))))
     ∙ ap (demands_in q t) (sym is)

@@ -9,6 +9,9 @@ pub number-requires : goal.number-requires
 number-requires c =
     subst (λ (F : Frame). Contains F.segments c.in-Some.e) (sym c.lists_of-lists.ensures.lists) (subst (Contains c.args.numbering.now.frame.segments) (sym c.in-Some.ensures.ends) c.requires.segment)
 
+pub push_stay-requires-clause-rounds : goal.push_stay-requires-clause-rounds
+push_stay-requires-clause-rounds c = let r = c.lists_of-lists.ensures.query.rounds in let l = c.requires.round in omega arith
+
 pub push_stay-requires-clause-within : goal.push_stay-requires-clause-within
 push_stay-requires-clause-within c = subst (λ (F : Frame). c.number.result < length F.segments) c.lists_of-lists.ensures.lists c.number.ensures.within
 
