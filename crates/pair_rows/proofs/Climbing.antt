@@ -1,5 +1,5 @@
 -- A lower bound begins as the bound by crossings, and each formula that is refuted raises it. None is raised without end.
-use Rattle.std.proofs.Common.{◌≡◌, ◌≢◌, ◌∙◌, sym, ap, refl, subst, ℕ, ◌+◌, ◌^◌, ◌<◌, ◌≤◌, Bool, List, [], length, get_or, Contains, Some, slice_get, arith}
+use Rattle.std.proofs.Common.{◌≡◌, ◌≢◌, ◌∙◌, sym, ap, refl, subst, ℕ, ◌+◌, ◌^◌, ◌<◌, ◌≤◌, Bool, List, [], length, get_or, Some, slice_get, arith}
 use Rattle.std.specs.Prelude.{AllPairs}
 use Rattle.std.proofs.lemmas.Option.{get_or_from_slice_get}
 use Rattle.geo_orient.specs.declared.Point.{Point}
@@ -7,7 +7,6 @@ use Rattle.edge_table.specs.declared.edge.Edge.{Edge}
 use Rattle.edge_table.specs.Edges.{IsBefore, IsAscending}
 use Rattle.edge_table.proofs.Ascending.{not_before_itself}
 use Rattle.tri_theory.specs.Triangulations.{IsTriangulation}
-use Rattle.tri_theory.specs.Crossings.{crossings}
 use Rattle.crossing_law.specs.Digits.{digits}
 use Rattle.crossing_law.proofs.Counts.{digits_at_most}
 use Rattle.bound_law.specs.Bounds.{input_at}

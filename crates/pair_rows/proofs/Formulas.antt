@@ -1,5 +1,5 @@
 -- Formulas of both kinds: of k rounds there is at most one, it has few rounds, and a log that refutes it keeps its two triangulations apart.
-use Rattle.std.proofs.Common.{◌≡◌, ◌≢◌, ◌⊎◌, inl, inr, ◌∙◌, sym, ap, subst, ℕ, zero, suc, ◌+◌, ◌-◌, ◌*◌, ◌<◌, ◌≤◌, min, max, true, List, [], ◌∷◌, length, Contains, arith}
+use Rattle.std.proofs.Common.{◌≡◌, ◌≢◌, ◌⊎◌, inl, inr, ◌∙◌, sym, ap, subst, ℕ, zero, suc, ◌+◌, ◌-◌, ◌*◌, ◌≤◌, min, max, List, [], ◌∷◌, length, Contains, arith}
 use Rattle.std.proofs.Math.Nat.{mul-le-mul_right}
 use Rattle.geo_orient.specs.declared.Point.{Point}
 use Rattle.geo_orient.proofs.IntSigns.{IsPos}

@@ -4,7 +4,6 @@ use Rattle.std.specs.Prelude.{All, AllPairs}
 use Rattle.std.proofs.lemmas.List.Elements.{Contains-get_or}
 use Rattle.geo_orient.specs.declared.Point.{Point}
 use Rattle.edge_table.specs.declared.edge.Edge.{Edge}
-use Rattle.tri_theory.specs.Points.{ArePlaced}
 use Rattle.tri_theory.specs.Triangulations.{IsTriangulation}
 use Rattle.tri_theory.specs.Rounds.{IsSchedule, Within}
 use Rattle.tri_check.specs.Problems.{IsProblem}

@@ -2,7 +2,7 @@ use Rattle.std.proofs.Common.{subst}
 use Rattle.bound_law.specs.Bounds.{input_at}
 use Rattle.log_law.specs.Clauses.{listed}
 use Rattle.sat_search.specs.Answers.{IsAnswer}
-use Rattle.pair_rows.proofs.Climbing.{models_satisfy, rounds_are_met}
+use Rattle.pair_rows.proofs.Climbing.{models_satisfy}
 use Rattle.pair_rows.proofs.proving.try_rounds.Goals as goal
 
 pub decode2-requires-clause-model : goal.decode2-requires-clause-model
