@@ -1,9 +1,9 @@
-pub mod Commands
-pub mod Fits
-pub mod Loops
 pub mod Matches
 pub mod Meets
-pub mod Numbers
-pub mod Scans
+pub mod Pieces
+pub mod Rows
+pub mod Rules
 pub mod Steps
+pub mod Tops
+pub mod Values
 pub mod Walks

@@ -1,273 +1,318 @@
--- What plain words ask for is what clap's matches of them ask for.
-use Rattle.std.proofs.Common.{◌≡◌, ◌≢◌, ◌∙◌, ◌&&◌, ◌==◌, ℕ, Bool, true, false, cond, sym, ap, ap₂, refl, subst, List, [], ◌∷◌, Option, Some, None, codes, eqb, eqb-true, length, arith}
-use Rattle.std.specs.List.{list_all, slice_get}
-use Rattle.std.specs.Option.{option_and_then}
+-- What words ask for is what the matches of their row ask for.
+use Rattle.std.proofs.Common.{◌≡◌, ◌∙◌, ◌≤◌, ◌<◌, ◌&&◌, ◌||◌, ◌==◌, not, ne_eqb, ℕ, Bool, true, false, cond, sym, ap, ap₂, refl, subst, List, [], ◌∷◌, Option, Some, None, codes, map, option_map, length, nat_lt, arith, ltb-true}
+use Rattle.std.specs.List.{All, list_all}
+use Rattle.std.specs.Option.{option_to_list}
 use Rattle.std.specs.Str.{bytes_eq}
+use Rattle.std.proofs.lemmas.List.Elements.{All-nil, All-cons, All-head, All-tail}
 use Rattle.std.proofs.lemmas.Slice.Eq.{bytes_eq-Decides}
-use Rattle.clap.specs.Walk.{Row, Text, rows_after}
+use Rattle.clap.proofs.WalkLemmas.{both}
+use Rattle.clap.specs.Faults.{fault_of}
+use Rattle.clap.specs.Walk.{Row as Given, Text, first_of}
 use Rattle.clap.specs.Simple.{subcommand_of}
-use Rattle.clap.specs.Takes.{takes}
 use Rattle.centre_words.specs.declared.asked.Asked.{Asked}
 use Rattle.centre_words.specs.declared.asked.Asked.TheVariants as asked
 use Rattle.centre_words.specs.Commands.{AsksBy, the_app}
-use Rattle.centre_words.specs.PlainWords.{are_names, are_pieces, are_plain, is_plain}
-use Rattle.centre_words.specs.Words.{Asks, AsksSolve, IsChosen, IsGiven, IsPlain, Piece, Setting, Turns, Seed, Flips, spelling, values_of}
-use Rattle.centre_words.proofs.Commands.{check_matches, check_taken, score_matches, score_taken, solve_matches, solve_taken}
-use Rattle.centre_words.proofs.Fits.{Fits, IsFew, all_plain, fits, found_values, rows_for, two_names}
-use Rattle.centre_words.proofs.Scans.{finds, is_plain_of, plain_of, what_fits_passes}
-use Rattle.centre_words.proofs.Steps.{first, row, solve_rules}
-use Rattle.centre_words.proofs.Walks.{nothing_there, plain, solve_rows}
+use Rattle.centre_words.specs.PlainWords.{is_bare, is_word}
+use Rattle.centre_words.specs.Table.{Number, Row, table, check_row, score_row, solve_row, verify_row, turns, seed, flips}
+use Rattle.centre_words.specs.Words.{Asks, AsksSolve, IsChosen, IsPlain, IsPlainPiece, Piece, dashed, name, given, names_of, spelling, values_of}
+use Rattle.centre_words.proofs.Pieces.{Few, Fits, rows_for}
+use Rattle.centre_words.proofs.Rules.{at_all, has, options, places}
+use Rattle.centre_words.proofs.Tops.{named, parts_of, row_at, row_fault, row_rows}
+use Rattle.centre_words.proofs.Values.{apart, few_rows, firsts, fits_short, found_values, names_are, option_apart, slots, slots_are, times_are}
+use Rattle.centre_words.proofs.Walks.{finds, passes}
 
-pub record Meets (words : List Text) : Type 0 where
-  pub command : Text
-  pub rows : List Row
-  pub matches : subcommand_of the_app words ≡ Some (command, rows)
-  pub taken : takes the_app words ≡ true
-  pub to : (a : Asked) → AsksBy command rows a → Asks words a
-  pub from : (a : Asked) → Asks words a → AsksBy command rows a
+abbrev pub ids_of : Row → List Text
+ids_of row = places (parts_of row)
 
--- two commands differ
-check≢score : codes "check" ≢ codes "score"
-check≢score e = let clash : true ≡ false = ap (λ t. bytes_eq t (codes "check")) e in cc
+abbrev pub opts_of : Row → List Text
+opts_of row = options (parts_of row)
 
-pub check≢solve : codes "check" ≢ codes "solve"
-check≢solve e = let clash : true ≡ false = ap (λ t. bytes_eq t (codes "check")) e in cc
+-- ---- the rows of the table are sound
 
-pub score≢solve : codes "score" ≢ codes "solve"
-score≢solve e = let clash : true ≡ false = ap (λ t. bytes_eq t (codes "score")) e in cc
+abbrev is_sound : Row → Bool
+is_sound row = is_word row.name && (nat_lt (length (ids_of row)) 90 && (apart (ids_of row) (opts_of row) && list_all (λ o. is_word (dashed o)) (opts_of row)))
 
-abbrev command_in : List Text → Text
-command_in [] = []
-command_in (command ∷ words) = command
+pub record Sound (row : Row) : Type 0 where
+  pub title : is_word row.name ≡ true
+  pub small : length (ids_of row) < 90
+  pub distinct : apart (ids_of row) (opts_of row) ≡ true
+  pub bare : list_all (λ o. is_word (dashed o)) (opts_of row) ≡ true
 
-meets_check : (x : ℕ) (xs : List ℕ) → eqb x 45 ≡ false → IsPlain (x ∷ xs) → Meets (codes "check" ∷ (x ∷ xs) ∷ [])
-meets_check x xs other p = record {
-  command = codes "check";
-  rows = row (codes "instance") (x ∷ xs) ∷ [];
-  matches = check_matches x xs other;
-  taken = check_taken x xs other;
-  to = to;
-  from = from;
-}
+one_of_all : (rows : List Row) (word : Text) (row : Row) → list_all is_sound rows ≡ true → row_at word rows ≡ Some row → is_sound row ≡ true
+one_of_all [] word row all e = cc
+one_of_all (r ∷ rows) word row all e = go (bytes_eq r.name word) e (one_of_all rows word row (both (is_sound r) _ all).1)
   where
-    to : (a : Asked) → AsksBy (codes "check") (row (codes "instance") (x ∷ xs) ∷ []) a → Asks (codes "check" ∷ (x ∷ xs) ∷ []) a
-    to (asked.Check instance) h =
-        let same : x ∷ xs ≡ instance = cc h.1 in
-        (ap (λ w. codes "check" ∷ w ∷ []) same, subst IsPlain same p)
-    to (asked.Score instance solution) h = absurd (check≢score h.0)
-    to (asked.Solve instance solution turns seed flips) h = absurd (check≢solve h.0)
+    go : (b : Bool) → cond (b || false) (Some r) (row_at word rows) ≡ Some row → (row_at word rows ≡ Some row → is_sound row ≡ true) → is_sound row ≡ true
+    go true f more = let same : r ≡ row = cc f in ap is_sound (sym same) ∙ (both (is_sound r) _ all).0
+    go false f more = more f
 
-    from : (a : Asked) → Asks (codes "check" ∷ (x ∷ xs) ∷ []) a → AsksBy (codes "check") (row (codes "instance") (x ∷ xs) ∷ []) a
-    from (asked.Check instance) h =
-        let same : x ∷ xs ≡ instance = cc h.0 in
-        (refl, ap Some same)
-    from (asked.Score instance solution) h = absurd (check≢score (ap command_in h.0))
-    from (asked.Solve instance solution turns seed flips) h = absurd (check≢solve (ap command_in h.spelled))
+pub sound : (row : Row) → row_at row.name table ≡ Some row → Sound row
+sound row at =
+    let a = both (is_word row.name) _ (one_of_all table row.name row refl at) in
+    let b = both (nat_lt (length (ids_of row)) 90) _ a.1 in
+    let c = both (apart (ids_of row) (opts_of row)) _ b.1 in
+    record { title = a.0; small = ltb-true (length (ids_of row)) 90 b.0; distinct = c.0; bare = c.1 }
 
-meets_score : (x y : ℕ) (xs ys : List ℕ) → eqb x 45 ≡ false → eqb y 45 ≡ false → IsPlain (x ∷ xs) → IsPlain (y ∷ ys) → Meets (codes "score" ∷ (x ∷ xs) ∷ (y ∷ ys) ∷ [])
-meets_score x y xs ys other also p q = record {
-  command = codes "score";
-  rows = row (codes "instance") (x ∷ xs) ∷ row (codes "solution") (y ∷ ys) ∷ [];
-  matches = score_matches x y xs ys other also;
-  taken = score_taken x y xs ys other also;
-  to = to;
-  from = from;
-}
+bare_option : (opts : List Text) (o : Text) → list_all (λ o. is_word (dashed o)) opts ≡ true → has o opts ≡ true → is_word (dashed o) ≡ true
+bare_option [] o all is = cc
+bare_option (k ∷ opts) o all is = go (bytes_eq k o) refl is (bare_option opts o (both (is_word (dashed k)) _ all).1)
   where
-    to : (a : Asked) → AsksBy (codes "score") (row (codes "instance") (x ∷ xs) ∷ row (codes "solution") (y ∷ ys) ∷ []) a → Asks (codes "score" ∷ (x ∷ xs) ∷ (y ∷ ys) ∷ []) a
-    to (asked.Check instance) h = absurd (check≢score (sym h.0))
-    to (asked.Score instance solution) h =
-        let same : x ∷ xs ≡ instance = cc h.1 in
-        let same_too : y ∷ ys ≡ solution = cc h.2 in
-        (ap₂ (λ v w. codes "score" ∷ v ∷ w ∷ []) same same_too, subst IsPlain same p, subst IsPlain same_too q)
-    to (asked.Solve instance solution turns seed flips) h = absurd (score≢solve h.0)
+    go : (b : Bool) → bytes_eq k o ≡ b → (b || has o opts) ≡ true → (has o opts ≡ true → is_word (dashed o) ≡ true) → is_word (dashed o) ≡ true
+    go true same there more = ap (λ t. is_word (dashed t)) (sym ((bytes_eq-Decides k o).0 same)) ∙ (both (is_word (dashed k)) _ all).0
+    go false same there more = more there
 
-    from : (a : Asked) → Asks (codes "score" ∷ (x ∷ xs) ∷ (y ∷ ys) ∷ []) a → AsksBy (codes "score") (row (codes "instance") (x ∷ xs) ∷ row (codes "solution") (y ∷ ys) ∷ []) a
-    from (asked.Check instance) h = absurd (check≢score (sym (ap command_in h.0)))
-    from (asked.Score instance solution) h =
-        let same : x ∷ xs ≡ instance = cc h.0 in
-        let same_too : y ∷ ys ≡ solution = cc h.0 in
-        (refl, ap Some same, ap Some same_too)
-    from (asked.Solve instance solution turns seed flips) h = absurd (score≢solve (ap command_in h.spelled))
+-- ---- words are the row's, and these are the rows that are found
 
--- an option that is chosen is given at most once
-chosen_few : (usual most : ℕ) (values : List (List ℕ)) (n : ℕ) → IsChosen usual most values n → IsFew false values
-chosen_few usual most [] n h = tt
-chosen_few usual most (value ∷ []) n h = tt
-chosen_few usual most (value ∷ v ∷ vs) n h = absurd h
+pub record Said (row : Row) (words : List Text) (found : List Given) : Type 0 where
+  pub pieces : List Piece
+  pub spelled : words ≡ row.name ∷ spelling pieces
+  pub fits : Fits (opts_of row) (ids_of row) pieces
+  pub few : Few (rows_for (ids_of row) pieces)
+  pub rows_are : found ≡ rows_for (ids_of row) pieces
 
-given_few : (most : ℕ) (values : List (List ℕ)) (n : Option ℕ) → IsGiven most values n → IsFew false values
-given_few most [] n h = tt
-given_few most (value ∷ []) n h = tt
-given_few most (value ∷ v ∷ vs) n h = absurd h
+pub record Read (words : List Text) : Type 0 where
+  pub row : Row
+  pub at : row_at row.name table ≡ Some row
+  pub found : List Given
+  pub matches : subcommand_of the_app words ≡ Some (row.name, found)
+  pub said : Said row words found
 
-pub solve_fits : (words : List Text) (instance solution : List ℕ) (turns seed : ℕ) (flips : Option ℕ) (h : AsksSolve words instance solution turns seed flips) → Fits first nothing_there h.pieces
-solve_fits words instance solution turns seed flips h = fits first nothing_there h.pieces (instance, solution, h.names) h.plain few
-  where
-    few : (s : Setting) → IsFew false (values_of s h.pieces)
-    few Turns = chosen_few 64 1000000 (values_of Turns h.pieces) turns h.turns_is
-    few Seed = chosen_few 1 18446744073709551615 (values_of Seed h.pieces) seed h.seed_is
-    few Flips = given_few 1000000000 (values_of Flips h.pieces) flips h.flips_is
-
-abbrev first_value : Option Row → Option Text
-first_value = option_and_then (λ (r : Row). slice_get r.values 0)
-
-solve_to : (pieces : List Piece) → Fits first nothing_there pieces → (a : Asked) → AsksBy (codes "solve") (rows_for first pieces) a → Asks (codes "solve" ∷ spelling pieces) a
-solve_to pieces f (asked.Check instance) h = absurd (check≢solve (sym h.0))
-solve_to pieces f (asked.Score instance solution) h = absurd (score≢solve (sym h.0))
-solve_to pieces f (asked.Solve instance solution turns seed flips) h =
-    let named = two_names nothing_there pieces f in
-    let same : Some named.instance ≡ Some instance = sym (ap first_value named.instance_row) ∙ h.1 in
-    let same_too : Some named.solution ≡ Some solution = sym (ap first_value named.solution_row) ∙ h.2 in
-    let is : named.instance ≡ instance = cc same in
-    let is_too : named.solution ≡ solution = cc same_too in
+pub read : (words : List Text) → list_all is_word words ≡ true → fault_of the_app words ≡ [] → Read words
+read words all e =
+    let n = named words all e in
+    let rest = (both (is_word n.row.name) _ (ap (list_all is_word) (sym n.is) ∙ all)).1 in
+    let s = sound n.row n.at in
+    let small = s.small in
+    let f = (finds n.row.name (parts_of n.row) n.rest rest).here (ids_of n.row) [] [] None 1 (at_all 1 (parts_of n.row) (omega (arith, small))) (λ _. (refl, λ id. omega arith))
+    (sym (row_fault n.row n.rest n.at) ∙ ap (fault_of the_app) (sym n.is) ∙ e) in
     record {
-      pieces = pieces;
-      spelled = refl;
-      plain = all_plain first nothing_there pieces f;
-      names = named.names ∙ ap₂ (λ v w. v ∷ w ∷ []) is is_too;
-      differ = h.3;
-      turns_is = subst (λ vs. IsChosen 64 1000000 vs turns) (found_values first nothing_there Turns pieces f) h.4;
-      seed_is = subst (λ vs. IsChosen 1 18446744073709551615 vs seed) (found_values first nothing_there Seed pieces f) h.5;
-      flips_is = subst (λ vs. IsGiven 1000000000 vs flips) (found_values first nothing_there Flips pieces f) h.6;
+      row = n.row;
+      at = n.at;
+      found = _;
+      matches = ap (subcommand_of the_app) n.is ∙ row_rows n.row n.rest n.at;
+      said = record { pieces = f.pieces; spelled = n.is ∙ ap (λ ws. n.row.name ∷ ws) f.spelled; fits = f.fits; few = f.few; rows_are = f.rows_are };
     }
 
-solve_from : (words : List Text) (instance solution : List ℕ) (turns seed : ℕ) (flips : Option ℕ) (h : AsksSolve words instance solution turns seed flips)
-    → AsksBy (codes "solve") (rows_for first h.pieces) (asked.Solve instance solution turns seed flips)
-solve_from words instance solution turns seed flips h =
-    let f = solve_fits words instance solution turns seed flips h in
-    let named = two_names nothing_there h.pieces f in
-    let both : named.instance ∷ named.solution ∷ [] ≡ instance ∷ solution ∷ [] = sym named.names ∙ h.names in
-    let is : named.instance ≡ instance = cc both in
-    let is_too : named.solution ≡ solution = cc both in (
+plain_word : (word : Text) → IsPlain word → is_word word ≡ true
+plain_word [] no_word = absurd no_word
+plain_word (a ∷ []) other = ap not (ne_eqb a 45 other)
+plain_word (a ∷ b ∷ bs) other = ap (λ t. not t || ((b == 45) && is_bare bs)) (ne_eqb a 45 other)
+
+plain_spelling : (opts ids : List Text) (pieces : List Piece) → list_all (λ o. is_word (dashed o)) opts ≡ true → Fits opts ids pieces → list_all is_word (spelling pieces) ≡ true
+plain_spelling opts ids [] bare fits = refl
+plain_spelling opts [] (name word ∷ pieces) bare fits = absurd fits
+plain_spelling opts (id ∷ ids) (name word ∷ pieces) bare fits = ap₂ ◌&&◌ (plain_word word fits.0) (plain_spelling opts ids pieces bare fits.1)
+plain_spelling opts ids (given o value ∷ pieces) bare fits =
+    ap₂ ◌&&◌ (bare_option opts o bare fits.0) (ap₂ ◌&&◌ (plain_word value fits.1) (plain_spelling opts ids pieces bare fits.2))
+
+-- the words ask for this, and `clap` reads it
+pub record Meets (words : List Text) (a : Asked) : Type 0 where
+  pub plain : list_all is_word words ≡ true
+  pub faultless : fault_of the_app words ≡ []
+  pub command : Text
+  pub found : List Given
+  pub matches : subcommand_of the_app words ≡ Some (command, found)
+  pub by : AsksBy command found a
+
+meets_row : (row : Row) → row_at row.name table ≡ Some row → (words : List Text) (a : Asked) (pieces : List Piece) → words ≡ row.name ∷ spelling pieces → Fits (opts_of row) (ids_of row) pieces
+    → ((o : Text) → has o (opts_of row) ≡ true → length (values_of o pieces) ≤ 1) → AsksBy row.name (rows_for (ids_of row) pieces) a → Meets words a
+meets_row row at words a pieces is fits once by =
+    let s = sound row at in
+    let small = s.small in
+    let p = passes row.name (parts_of row) (λ o. bare_option (opts_of row) o s.bare) pieces (ids_of row) [] [] None 1 (at_all 1 (parts_of row) (omega (arith, small))) refl refl fits
+    (few_rows (opts_of row) (ids_of row) pieces s.distinct fits once) in
+    record {
+      plain = ap (list_all is_word) is ∙ ap₂ ◌&&◌ s.title (plain_spelling (opts_of row) (ids_of row) pieces s.bare fits);
+      faultless = ap (fault_of the_app) is ∙ row_fault row (spelling pieces) at ∙ p.0;
+      command = row.name;
+      found = rows_for (ids_of row) pieces;
+      matches = ap (subcommand_of the_app) is ∙ row_rows row (spelling pieces) at ∙ ap (λ rows. Some (row.name, rows)) p.1;
+      by = by;
+    }
+
+-- ---- pieces without options are the names
+
+abbrev AllPlain : List Text → Type 0
+AllPlain [] = Unit {0}
+AllPlain (v ∷ vs) = IsPlain v × AllPlain vs
+
+fits_bare : (ids : List Text) (pieces : List Piece) → Fits [] ids pieces → (spelling pieces ≡ names_of pieces) × AllPlain (names_of pieces)
+fits_bare ids [] fits = (refl, tt)
+fits_bare [] (name word ∷ pieces) fits = absurd fits
+fits_bare (id ∷ ids) (name word ∷ pieces) fits = let more = fits_bare ids pieces fits.1 in (ap (λ ws. word ∷ ws) more.0, (fits.0, more.1))
+fits_bare ids (given o value ∷ pieces) fits = let none = fits.0 in cc
+
+said_names : (row : Row) → row_at row.name table ≡ Some row → (words : List Text) (found : List Given) (s : Said row words found) (vs : List Text) → firsts found (ids_of row) ≡ map (λ v. Some v) vs → names_of s.pieces ≡ vs
+said_names row at words found s vs e =
+    names_are (ids_of row) (names_of s.pieces) vs (fits_short (opts_of row) (ids_of row) s.pieces s.fits)
+    (sym (slots_are (opts_of row) (ids_of row) s.pieces (sound row at).distinct s.fits) ∙ ap (λ rows. firsts rows (ids_of row)) (sym s.rows_are) ∙ e)
+
+said_bare : (row : Row) → row_at row.name table ≡ Some row → [] ≡ opts_of row → (words : List Text) (found : List Given) (s : Said row words found) (vs : List Text) → firsts found (ids_of row) ≡ map (λ v. Some v) vs
+    → (words ≡ row.name ∷ vs) × AllPlain vs
+said_bare row at none words found s vs e =
+    let names = said_names row at words found s vs e in
+    let b = fits_bare (ids_of row) s.pieces (subst (λ o. Fits o (ids_of row) s.pieces) (sym none) s.fits) in
+    (s.spelled ∙ ap (λ ws. row.name ∷ ws) (b.0 ∙ names), subst AllPlain names b.1)
+
+said_values : (row : Row) → row_at row.name table ≡ Some row → (words : List Text) (found : List Given) (s : Said row words found) (o : Text) → has o (opts_of row) ≡ true
+    → option_to_list (first_of o found) ≡ values_of o s.pieces
+said_values row at words found s o is =
+    let apart = option_apart o (ids_of row) (opts_of row) (sound row at).distinct is in
+    let t = times_are o (opts_of row) (ids_of row) s.pieces apart s.fits in
+    let f = s.few o in
+    ap (λ rows. option_to_list (first_of o rows)) s.rows_are ∙ found_values o (opts_of row) (ids_of row) s.pieces apart s.fits (omega (arith, t, f))
+
+fits_all : (opts ids : List Text) (pieces : List Piece) → Fits opts ids pieces → All (IsPlainPiece opts) pieces
+fits_all opts ids [] fits = All-nil (IsPlainPiece opts)
+fits_all opts [] (name word ∷ pieces) fits = absurd fits
+fits_all opts (id ∷ ids) (name word ∷ pieces) fits = All-cons (IsPlainPiece opts) (name word) pieces fits.0 (fits_all opts ids pieces fits.1)
+fits_all opts ids (given o value ∷ pieces) fits = All-cons (IsPlainPiece opts) (given o value) pieces (fits.0, fits.1) (fits_all opts ids pieces fits.2)
+
+all_fit : (opts ids : List Text) (pieces : List Piece) → length (names_of pieces) ≤ length ids → All (IsPlainPiece opts) pieces → Fits opts ids pieces
+all_fit opts ids [] short all = tt
+all_fit opts [] (name word ∷ pieces) short all = absurd (omega (arith, short))
+all_fit opts (id ∷ ids) (name word ∷ pieces) short all =
+    (All-head (IsPlainPiece opts) (name word) pieces all, all_fit opts ids pieces (omega (arith, short)) (All-tail (IsPlainPiece opts) (name word) pieces all))
+all_fit opts ids (given o value ∷ pieces) short all =
+    let p = All-head (IsPlainPiece opts) (given o value) pieces all in
+    (p.0, p.1, all_fit opts ids pieces short (All-tail (IsPlainPiece opts) (given o value) pieces all))
+
+-- ---- what matches ask for, words ask for
+
+as_row : (row r : Row) (words : List Text) (found : List Given) → row_at row.name table ≡ Some row → row_at r.name table ≡ Some r → row.name ≡ r.name → Said row words found → Said r words found
+as_row row r words found at at_r same s =
+    let both : Some row ≡ Some r = sym at ∙ ap (λ w. row_at w table) same ∙ at_r in
+    let is : row ≡ r = cc both in
+    subst (λ q. Said q words found) is s
+
+pub asks_from : (row : Row) (words : List Text) (found : List Given) → row_at row.name table ≡ Some row → Said row words found → (a : Asked) → AsksBy row.name found a → Asks words a
+asks_from row words found at s (asked.Check i) h =
+    let b = said_bare check_row refl refl words found (as_row row check_row words found at refl h.0 s) (i ∷ []) (λ j. h.1 j ∷ []) in
+    (b.0, b.1.0)
+asks_from row words found at s (asked.Score i t) h =
+    let b = said_bare score_row refl refl words found (as_row row score_row words found at refl h.0 s) (i ∷ t ∷ []) (λ j. h.1 j ∷ h.2 j ∷ []) in
+    (b.0, b.1.0, b.1.1.0)
+asks_from row words found at s (asked.Solve i t n m o) h =
+    let said = as_row row solve_row words found at refl h.0 s in
+    record {
+      pieces = said.pieces;
+      spelled = said.spelled;
+      plain = fits_all (opts_of solve_row) (ids_of solve_row) said.pieces said.fits;
+      names = said_names solve_row refl words found said (i ∷ t ∷ []) (λ j. h.1 j ∷ h.2 j ∷ []);
+      differ = h.3;
+      turns_is = subst (λ vs. IsChosen turns vs (Some n)) (said_values solve_row refl words found said turns.name refl) h.4;
+      seed_is = subst (λ vs. IsChosen seed vs (Some m)) (said_values solve_row refl words found said seed.name refl) h.5;
+      flips_is = subst (λ vs. IsChosen flips vs o) (said_values solve_row refl words found said flips.name refl) h.6;
+    }
+asks_from row words found at s (asked.Verify i t c) h =
+    let b = said_bare verify_row refl refl words found (as_row row verify_row words found at refl h.0 s) (i ∷ t ∷ c ∷ []) (λ j. h.1 j ∷ h.2 j ∷ h.3 j ∷ []) in
+    (b.0, b.1.0, b.1.1.0, b.1.1.1.0)
+
+-- ---- and back
+
+chosen_once : (number : Number) (values : List Text) (n : Option ℕ) → IsChosen number values n → length values ≤ 1
+chosen_once number [] n h = omega arith
+chosen_once number (value ∷ []) n h = omega arith
+chosen_once number (value ∷ v ∷ vs) n h = absurd h
+
+abbrev AllOnce : List Text → List Piece → Type 0
+AllOnce [] pieces = Unit {0}
+AllOnce (o ∷ opts) pieces = (length (values_of o pieces) ≤ 1) × AllOnce opts pieces
+
+each_once : (opts : List Text) (pieces : List Piece) → AllOnce opts pieces → (o : Text) → has o opts ≡ true → length (values_of o pieces) ≤ 1
+each_once [] pieces all o is = cc
+each_once (k ∷ opts) pieces all o is = go (bytes_eq k o) refl is (each_once opts pieces all.1 o)
+  where
+    go : (b : Bool) → bytes_eq k o ≡ b → (b || has o opts) ≡ true → (has o opts ≡ true → length (values_of o pieces) ≤ 1) → length (values_of o pieces) ≤ 1
+    go true same there more = subst (λ t. length (values_of t pieces) ≤ 1) ((bytes_eq-Decides k o).0 same) all.0
+    go false same there more = more there
+
+meets_solve : (words : List Text) (i t : Text) (n m : ℕ) (o : Option ℕ) → AsksSolve words i t n m o → Meets words (asked.Solve i t n m o)
+meets_solve words i t n m o h =
+    let names : slots (ids_of solve_row) (names_of h.pieces) ≡ Some i ∷ Some t ∷ [] = ap (slots (ids_of solve_row)) h.names in
+    let short = ap length h.names in
+    let fits = all_fit (opts_of solve_row) (ids_of solve_row) h.pieces (omega (arith, short)) h.plain in
+    let once = each_once (opts_of solve_row) h.pieces
+    (chosen_once turns _ (Some n) h.turns_is, (chosen_once seed _ (Some m) h.seed_is, (chosen_once flips _ o h.flips_is, tt))) in
+    let found = rows_for (ids_of solve_row) h.pieces in
+    let firsts_are : firsts found (ids_of solve_row) ≡ Some i ∷ Some t ∷ [] = slots_are (opts_of solve_row) (ids_of solve_row) h.pieces refl fits ∙ names in
+    let value : (k : Text) → has k (opts_of solve_row) ≡ true → values_of k h.pieces ≡ option_to_list (first_of k found) =
+    λ k is. sym (found_values k (opts_of solve_row) (ids_of solve_row) h.pieces (option_apart k (ids_of solve_row) (opts_of solve_row) refl is) fits (once k is)) in
+    meets_row solve_row refl words (asked.Solve i t n m o) h.pieces h.spelled fits once (
       refl,
-      ap first_value named.instance_row ∙ ap Some is,
-      ap first_value named.solution_row ∙ ap Some is_too,
+      cc firsts_are,
+      cc firsts_are,
       h.differ,
-      subst (λ vs. IsChosen 64 1000000 vs turns) (sym (found_values first nothing_there Turns h.pieces f)) h.turns_is,
-      subst (λ vs. IsChosen 1 18446744073709551615 vs seed) (sym (found_values first nothing_there Seed h.pieces f)) h.seed_is,
-      subst (λ vs. IsGiven 1000000000 vs flips) (sym (found_values first nothing_there Flips h.pieces f)) h.flips_is,
+      subst (λ vs. IsChosen turns vs (Some n)) (value turns.name refl) h.turns_is,
+      subst (λ vs. IsChosen seed vs (Some m)) (value seed.name refl) h.seed_is,
+      subst (λ vs. IsChosen flips vs o) (value flips.name refl) h.flips_is,
     )
 
-abbrev words_behind : List Text → List Text
-words_behind [] = []
-words_behind (command ∷ words) = words
+pub meets : (words : List Text) (a : Asked) → Asks words a → Meets words a
+meets words (asked.Check i) h = meets_row check_row refl words (asked.Check i) (name i ∷ []) h.0 (h.1, tt) (λ o is. cc) (refl, refl)
+meets words (asked.Score i t) h = meets_row score_row refl words (asked.Score i t) (name i ∷ name t ∷ []) h.0 (h.1, (h.2, tt)) (λ o is. cc) (refl, refl, refl)
+meets words (asked.Solve i t n m o) h = meets_solve words i t n m o h
+meets words (asked.Verify i t c) h =
+    meets_row verify_row refl words (asked.Verify i t c) (name i ∷ name t ∷ name c ∷ []) h.0 (h.1, (h.2, (h.3, tt))) (λ o is. cc) (refl, refl, refl, refl)
 
-pub meets_solve : (pieces : List Piece) → Fits first nothing_there pieces → Meets (codes "solve" ∷ spelling pieces)
-meets_solve pieces f = record {
-  command = codes "solve";
-  rows = rows_for first pieces;
-  matches = solve_matches pieces f;
-  taken = solve_taken pieces f;
-  to = solve_to pieces f;
-  from = from;
-}
-  where
-    from : (a : Asked) → Asks (codes "solve" ∷ spelling pieces) a → AsksBy (codes "solve") (rows_for first pieces) a
-    from (asked.Check instance) h = absurd (check≢solve (sym (ap command_in h.0)))
-    from (asked.Score instance solution) h = absurd (score≢solve (sym (ap command_in h.0)))
-    from (asked.Solve instance solution turns seed flips) h =
-        let g = solve_fits (codes "solve" ∷ spelling pieces) instance solution turns seed flips h in
-        let same : rows_for first h.pieces ≡ rows_for first pieces =
-        sym (solve_rows h.pieces g) ∙ ap (rows_after solve_rules []) (sym (ap words_behind h.spelled)) ∙ solve_rows pieces f in
-        subst (λ rows. AsksBy (codes "solve") rows (asked.Solve instance solution turns seed flips)) same (solve_from (codes "solve" ∷ spelling pieces) instance solution turns seed flips h)
+-- ---- matches ask for at most one thing
 
--- what asks for something is plain
-pub what_asks_is_plain : (words : List Text) (a : Asked) → Asks words a → are_plain words ≡ true
-what_asks_is_plain words (asked.Check instance) h =
-    ap are_plain h.0 ∙ ap (λ b. b && true) (is_plain_of instance h.1)
-what_asks_is_plain words (asked.Score instance solution) h =
-    ap are_plain h.0 ∙ ap₂ (λ b c. b && (c && true)) (is_plain_of instance h.1) (is_plain_of solution h.2)
-what_asks_is_plain words (asked.Solve instance solution turns seed flips) h =
-    ap are_plain h.spelled ∙ what_fits_passes first nothing_there h.pieces (solve_fits words instance solution turns seed flips h)
+number_once : (number : Number) (values : List Text) (m n : Option ℕ) → IsChosen number values m → IsChosen number values n → m ≡ n
+number_once number [] m n h k = h ∙ sym k
+number_once number (value ∷ []) None n h k = absurd h
+number_once number (value ∷ []) (Some m) None h k = absurd k
+number_once number (value ∷ []) (Some m) (Some n) h k = ap Some (h.value ∙ sym k.value)
+number_once number (value ∷ v ∷ vs) m n h k = absurd h
 
-both_true : (a b : Bool) → (a && b) ≡ true → (a ≡ true) × (b ≡ true)
-both_true true true e = (refl, refl)
-both_true true false e = cc
-both_true false b e = cc
+some_is : {X : Type 0} (x y : X) → Some x ≡ Some y → x ≡ y
+some_is x y e = cc e
 
-one_plain : (words : List Text) → are_names 1 words ≡ true → (w : Text) × (words ≡ w ∷ []) × IsPlain w
-one_plain [] h = cc
-one_plain (w ∷ []) h = (w, refl, plain_of w (both_true (is_plain w) true h).0)
-one_plain (v ∷ w ∷ words) h =
-    let long : length (v ∷ w ∷ words) ≡ 1 = eqb-true (length (v ∷ w ∷ words)) 1 (both_true (length (v ∷ w ∷ words) == 1) (list_all is_plain (v ∷ w ∷ words)) h).0 in
-    absurd (omega arith)
+same_name : (o : Option Text) (v w : Text) → o ≡ Some v → o ≡ Some w → v ≡ w
+same_name o v w e f = some_is v w (sym e ∙ f)
 
-two_plain : (words : List Text) → are_names 2 words ≡ true → (v w : Text) × (words ≡ v ∷ w ∷ []) × IsPlain v × IsPlain w
-two_plain [] h = cc
-two_plain (v ∷ []) h = cc
-two_plain (v ∷ w ∷ []) h =
-    let both = both_true (is_plain v) (is_plain w && true) h in
-    (v, w, refl, plain_of v both.0, plain_of w (both_true (is_plain w) true both.1).0)
-two_plain (u ∷ v ∷ w ∷ words) h =
-    let long : length (u ∷ v ∷ w ∷ words) ≡ 2 = eqb-true (length (u ∷ v ∷ w ∷ words)) 2 (both_true (length (u ∷ v ∷ w ∷ words) == 2) (list_all is_plain (u ∷ v ∷ w ∷ words)) h).0 in
-    absurd (omega arith)
+abbrev command_of : Asked → Text
+command_of (asked.Check i) = codes "check"
+command_of (asked.Score i s) = codes "score"
+command_of (asked.Solve i s n m o) = codes "solve"
+command_of (asked.Verify i s c) = codes "verify"
 
-with_check : (words : List Text) → are_names 1 words ≡ true → Meets (codes "check" ∷ words)
-with_check words h =
-    let one = one_plain words h in
-    let p = plain one.0 one.2 in
-    subst (λ ws. Meets (codes "check" ∷ ws)) (sym (one.1 ∙ ap (λ w. w ∷ []) p.is)) (meets_check p.head p.tail p.other (subst IsPlain p.is one.2))
-
-with_score : (words : List Text) → are_names 2 words ≡ true → Meets (codes "score" ∷ words)
-with_score words h =
-    let two = two_plain words h in
-    let p = plain two.0 two.3 in
-    let q = plain two.1 two.4 in
-    subst (λ ws. Meets (codes "score" ∷ ws)) (sym (two.2 ∙ ap₂ (λ v w. v ∷ w ∷ []) p.is q.is))
-    (meets_score p.head q.head p.tail q.tail p.other q.other (subst IsPlain p.is two.3) (subst IsPlain q.is two.4))
-
-with_solve : (words : List Text) → are_pieces words ≡ true → Meets (codes "solve" ∷ words)
-with_solve words h =
-    let found = (finds words).here first nothing_there h in
-    subst (λ ws. Meets (codes "solve" ∷ ws)) (sym found.spelled) (meets_solve found.pieces found.fits)
-
-behind : (command : Text) (words : List Text) (b c d : Bool) → bytes_eq command (codes "check") ≡ b → bytes_eq command (codes "score") ≡ c → bytes_eq command (codes "solve") ≡ d
-    → cond b (are_names 1 words) (cond c (are_names 2 words) (d && are_pieces words)) ≡ true → Meets (command ∷ words)
-behind command words true c d is_b is_c is_d h = subst (λ t. Meets (t ∷ words)) (sym ((bytes_eq-Decides command (codes "check")).0 is_b)) (with_check words h)
-behind command words false true d is_b is_c is_d h = subst (λ t. Meets (t ∷ words)) (sym ((bytes_eq-Decides command (codes "score")).0 is_c)) (with_score words h)
-behind command words false false true is_b is_c is_d h = subst (λ t. Meets (t ∷ words)) (sym ((bytes_eq-Decides command (codes "solve")).0 is_d)) (with_solve words h)
-behind command words false false false is_b is_c is_d h = cc
-
-pub meets : (words : List Text) → are_plain words ≡ true → Meets words
-meets [] h = cc
-meets (command ∷ words) h = behind command words (bytes_eq command (codes "check")) (bytes_eq command (codes "score")) (bytes_eq command (codes "solve")) refl refl refl h
-
--- matches ask for at most one thing
-
-chosen_once : (usual most : ℕ) (values : List (List ℕ)) (m n : ℕ) → IsChosen usual most values m → IsChosen usual most values n → m ≡ n
-chosen_once usual most [] m n h k = h ∙ sym k
-chosen_once usual most (value ∷ []) m n h k = h.value ∙ sym k.value
-chosen_once usual most (value ∷ v ∷ vs) m n h k = absurd h
-
-given_once : (most : ℕ) (values : List (List ℕ)) (m n : Option ℕ) → IsGiven most values m → IsGiven most values n → m ≡ n
-given_once most [] m n h k = h ∙ sym k
-given_once most (value ∷ []) None n h k = absurd h
-given_once most (value ∷ []) (Some m) None h k = absurd k
-given_once most (value ∷ []) (Some m) (Some n) h k = ap Some (h.value ∙ sym k.value)
-given_once most (value ∷ v ∷ vs) m n h k = absurd h
-
-same_name : (o : Option Text) (v w : List ℕ) → o ≡ Some v → o ≡ Some w → v ≡ w
-same_name o v w e f = let g : Some v ≡ Some w = sym e ∙ f in cc
-
-asks_by_once : (command : Text) (rows : List Row) (a b : Asked) → AsksBy command rows a → AsksBy command rows b → a ≡ b
-asks_by_once command rows (asked.Check i) (asked.Check j) h k = ap asked.Check (same_name _ i j h.1 k.1)
-asks_by_once command rows (asked.Check i) (asked.Score j t) h k = absurd (check≢score (sym h.0 ∙ k.0))
-asks_by_once command rows (asked.Check i) (asked.Solve j t n m o) h k = absurd (check≢solve (sym h.0 ∙ k.0))
-asks_by_once command rows (asked.Score i s) (asked.Check j) h k = absurd (check≢score (sym k.0 ∙ h.0))
-asks_by_once command rows (asked.Score i s) (asked.Score j t) h k = ap₂ asked.Score (same_name _ i j h.1 k.1) (same_name _ s t h.2 k.2)
-asks_by_once command rows (asked.Score i s) (asked.Solve j t n m o) h k = absurd (score≢solve (sym h.0 ∙ k.0))
-asks_by_once command rows (asked.Solve i s p q r) (asked.Check j) h k = absurd (check≢solve (sym k.0 ∙ h.0))
-asks_by_once command rows (asked.Solve i s p q r) (asked.Score j t) h k = absurd (score≢solve (sym k.0 ∙ h.0))
-asks_by_once command rows (asked.Solve i s p q r) (asked.Solve j t n m o) h k =
+asks_by_once : (command : Text) (found : List Given) (a b : Asked) → AsksBy command found a → AsksBy command found b → a ≡ b
+asks_by_once command found (asked.Check i) (asked.Check j) h k = ap asked.Check (same_name _ i j h.1 k.1)
+asks_by_once command found (asked.Score i s) (asked.Score j t) h k = ap₂ asked.Score (same_name _ i j h.1 k.1) (same_name _ s t h.2 k.2)
+asks_by_once command found (asked.Solve i s p q r) (asked.Solve j t n m o) h k =
     let ei = same_name _ i j h.1 k.1 in
     let es = same_name _ s t h.2 k.2 in
-    let ep = chosen_once 64 1000000 _ p n h.4 k.4 in
-    let eq = chosen_once 1 18446744073709551615 _ q m h.5 k.5 in
-    let er = given_once 1000000000 _ r o h.6 k.6 in
-    ap₂ (λ x y. asked.Solve x y p q r) ei es ∙ ap₂ (λ x y. asked.Solve j t x y r) ep eq ∙ ap (asked.Solve j t n m) er
+    let ep = some_is p n (number_once turns _ (Some p) (Some n) h.4 k.4) in
+    let eq = some_is q m (number_once seed _ (Some q) (Some m) h.5 k.5) in
+    let er = number_once flips _ r o h.6 k.6 in
+    λ l. asked.Solve (ei l) (es l) (ep l) (eq l) (er l)
+asks_by_once command found (asked.Verify i s c) (asked.Verify j t d) h k =
+    let ei = same_name _ i j h.1 k.1 in
+    let es = same_name _ s t h.2 k.2 in
+    let ec = same_name _ c d h.3 k.3 in
+    λ l. asked.Verify (ei l) (es l) (ec l)
+asks_by_once command found a b h k = let clash : bytes_eq (command_of a) (command_of a) ≡ bytes_eq (command_of b) (command_of a) = ap (λ t. bytes_eq t (command_of a)) (sym h.0 ∙ k.0) in cc
+
+pub same_found : (o : Option (Text × List Given)) (c d : Text) (f g : List Given) → o ≡ Some (c, f) → o ≡ Some (d, g) → (c ≡ d) × (f ≡ g)
+same_found o c d f g e k =
+    let joined = sym e ∙ k in
+    let first : Some c ≡ Some d = ap (option_map (λ (p : Text × List Given). p.0)) joined in
+    let second : Some f ≡ Some g = ap (option_map (λ (p : Text × List Given). p.1)) joined in
+    (some_is c d first, some_is f g second)
+
+-- what a getter's command and rows ask for
+pub by_matches : (words : List Text) (a : Asked) (m : Meets words a) (command : Text) (found : List Given) → subcommand_of the_app words ≡ Some (command, found) → AsksBy command found a
+by_matches words a m command found is =
+    let same = same_found _ m.command command m.found found m.matches is in
+    subst (λ f. AsksBy command f a) same.1 (subst (λ c. AsksBy c m.found a) same.0 m.by)
+
+pub asks_of_read : (words : List Text) (r : Read words) (command : Text) (found : List Given) → subcommand_of the_app words ≡ Some (command, found) → (a : Asked) → AsksBy command found a → Asks words a
+asks_of_read words r command found is a h =
+    let same = same_found _ command r.row.name found r.found is r.matches in
+    asks_from r.row words r.found r.at r.said a (subst (λ f. AsksBy r.row.name f a) same.1 (subst (λ c. AsksBy c found a) same.0 h))
 
 pub words_ask_once : (words : List Text) (a b : Asked) → Asks words a → Asks words b → a ≡ b
 words_ask_once words a b h k =
-    let m = meets words (what_asks_is_plain words a h) in
-    asks_by_once m.command m.rows a b (m.from a h) (m.from b k)
+    let m = meets words a h in
+    let n = meets words b k in
+    asks_by_once m.command m.found a b m.by (by_matches words b n m.command m.found m.matches)

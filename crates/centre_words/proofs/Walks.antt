@@ -1,135 +1,197 @@
--- What clap makes of the words behind `solve`: it takes them, and its rows are the pieces, as they came.
-use Rattle.std.proofs.Common.{◌≡◌, ◌≢◌, ◌∙◌, ◌&&◌, ◌++◌, ℕ, Bool, true, false, sym, ap, refl, subst, List, [], ◌∷◌, Option, Some, None, codes, eqb, append_assoc, append-nil, ne_eqb}
-use Rattle.std.specs.List.{find, fold}
-use Rattle.std.specs.Option.{option_map_or}
-use Rattle.std.specs.Str.{bytes_eq}
-use Rattle.clap.specs.Facts.{explicit_source}
+-- What `clap` makes of the words behind a command: it takes exactly those that are pieces, and its rows are the pieces, as they came.
+use Rattle.std.proofs.Common.{◌≡◌, ◌∙◌, ◌++◌, Bool, true, false, cond, sym, ap, ap₂, refl, subst, List, [], ◌∷◌, Option, Some, None, append_assoc, append-nil, ℕ}
+use Rattle.std.specs.List.{fold, list_all}
+use Rattle.clap.specs.Kinds.{Kinds, or_else}
+use Rattle.clap.specs.Faults.{settle_fault, turn_fault, walk_fault}
+use Rattle.clap.specs.Walk.{Row, Rule, Text, Walk, arg_by_long, has_row, idle, option, settled_rows, walked}
+use Rattle.clap.specs.Simple.{Shape}
+use Rattle.clap.specs.declared.error.kind.ErrorKind.TheVariants.{ArgumentConflict}
+use Rattle.clap.proofs.WalkLemmas.{both}
 use Rattle.clap.proofs.OnLiterals.{clap_on_literals}
-use Rattle.clap.specs.Walk.{Row, Text, Walk, finished, nothing_held, settled_rows, walk, walked, rows_after, has_row}
-use Rattle.clap.specs.Takes.{is_given, is_valid, level_passes, settle_passes, walk_passes}
-use Rattle.centre_words.specs.Words.{IsPlain, Piece, Setting, name, given, spelling}
-use Rattle.centre_words.proofs.Steps.{Stage, first, second, both, between, given_may, given_passes, given_settles, given_walks, held, key, name_may, name_passes, name_settles, name_walks, next_key, next_stage, no_defaults, position, row, solve_rules, solve_shape, valid}
-use Rattle.centre_words.proofs.Fits.{Fits, Holds, holds_given, holds_name, next_absent, rows_for, two_names, with_option}
+use Rattle.centre_words.specs.PlainWords.{is_word}
+use Rattle.centre_words.specs.Words.{Piece, dashed, name, given, spelling}
+use Rattle.centre_words.proofs.Pieces.{Few, Fits, View, few_more, fresh, long, no_equals, plain, rows_for, view}
+use Rattle.centre_words.proofs.Rules.{At, Known, Part, by_long, has, known_option, next, options, ours, rules_from}
+use Rattle.centre_words.proofs.Steps.{Turn, between, empty_fault, held, leaf, name_turn, option_turn, row, settles, stray_turn, unknown_turn, use_fault_is, value_turn}
 
--- a word that may be a name or a value
-pub record Plain (word : List ℕ) : Type 0 where
-  pub head : ℕ
-  pub tail : List ℕ
-  pub is : word ≡ head ∷ tail
-  pub other : eqb head 45 ≡ false
+pub both_nil : (a b : Kinds) → or_else a b ≡ [] → (a ≡ []) × (b ≡ [])
+both_nil [] b e = (refl, e)
+both_nil (k ∷ ks) b e = cc
 
-pub plain : (word : List ℕ) → IsPlain word → Plain word
-plain [] no_word = absurd no_word
-plain (x ∷ xs) other = record { head = x; tail = xs; is = refl; other = ne_eqb x 45 other }
+or_else_assoc : (a b c : Kinds) → or_else (or_else a b) c ≡ or_else a (or_else b c)
+or_else_assoc [] b c = refl
+or_else_assoc (k ∷ ks) b c = refl
 
-abbrev rows_at_end : Walk → List Row
-rows_at_end w = settled_rows solve_rules w.held.pending w.held.rows
+-- what is wrong with the words, and the rows at their end
+abbrev pub run_fault : Shape → Walk → List Text → Kinds
+run_fault s w words = or_else (walk_fault s [] w words) (settle_fault s.rules false (fold (walked s.rules []) w words).held)
 
-pub record Takes (st : Stage) (pieces : List Piece) (before : List Row) (rows : List Row) (pending : Option (Text × List Text)) : Type 0 where
-  pub rows_are : rows_at_end (fold (walked solve_rules []) (between rows pending (position st)) (spelling pieces)) ≡ before ++ rows_for st pieces
-  pub settles : settle_passes solve_rules false (fold (walked solve_rules []) (between rows pending (position st)) (spelling pieces)).held ≡ true
-  pub passes : walk_passes solve_shape [] (between rows pending (position st)) (spelling pieces) ≡ true
+abbrev pub run_rows : Shape → Walk → List Text → List Row
+run_rows s w words = settled_rows s.rules (fold (walked s.rules []) w words).held.pending (fold (walked s.rules []) w words).held.rows
 
-ends : (st : Stage) (rows : List Row) (pending : Option (Text × List Text)) → walk_passes solve_shape [] (between rows pending (position st)) [] ≡ true
+no_words : (s : Shape) (w : Walk) → run_fault s w [] ≡ settle_fault s.rules false w.held
 unfolding clap_on_literals
-ends st rows pending = refl
+no_words s w = refl
 
-takes_given : (st : Stage) (s : Setting) (value : List ℕ) (pieces : List Piece) (before rows : List Row) (pending : Option (Text × List Text))
-    → Plain value → settled_rows solve_rules pending rows ≡ before → settle_passes solve_rules false (held rows pending) ≡ true
-    → Takes st pieces (before ++ row (key s) value ∷ []) (settled_rows solve_rules pending rows) (Some (key s, value ∷ []))
-    → Takes st (given s value ∷ pieces) before rows pending
-takes_given st s value pieces before rows pending p settled may more =
-    let shown = subst (λ v. Takes st pieces (before ++ row (key s) v ∷ []) (settled_rows solve_rules pending rows) (Some (key s, v ∷ []))) p.is more in
-    subst (λ v. Takes st (given s v ∷ pieces) before rows pending) (sym p.is)
-    (made p.head p.tail p.other shown)
-  where
-    made : (x : ℕ) (xs : List ℕ) → eqb x 45 ≡ false
-        → Takes st pieces (before ++ row (key s) (x ∷ xs) ∷ []) (settled_rows solve_rules pending rows) (Some (key s, (x ∷ xs) ∷ []))
-        → Takes st (given s (x ∷ xs) ∷ pieces) before rows pending
-    made x xs other h =
-        let step = given_walks s rows pending (position st) x xs other in
-        record {
-          rows_are = ap (λ w. rows_at_end (fold (walked solve_rules []) w (spelling pieces))) step ∙ h.rows_are ∙ append_assoc before (row (key s) (x ∷ xs) ∷ []) (rows_for st pieces);
-          settles = ap (λ w. settle_passes solve_rules false (fold (walked solve_rules []) w (spelling pieces)).held) step ∙ h.settles;
-          passes = given_passes s rows pending (position st) x xs (spelling pieces) other may h.passes;
-        }
+first_turn : (s : Shape) (w : Walk) (word : Text) (words : List Text)
+    → run_fault s w (word ∷ words) ≡ or_else (turn_fault s [] w word) (run_fault s (walked s.rules [] w word) words)
+unfolding clap_on_literals
+first_turn s w word words = or_else_assoc (turn_fault s [] w word) _ _
 
-takes_name : (st : Stage) (word : List ℕ) (pieces : List Piece) (before rows : List Row) (pending : Option (Text × List Text))
-    → st ≢ both → Plain word → settled_rows solve_rules pending rows ≡ before → settle_passes solve_rules false (held rows pending) ≡ true
-    → Takes (next_stage st) pieces (before ++ row (next_key st) word ∷ []) (settled_rows solve_rules pending rows) (Some (next_key st, word ∷ []))
-    → Takes st (name word ∷ pieces) before rows pending
-takes_name st word pieces before rows pending more_names p settled may more =
-    let shown = subst (λ v. Takes (next_stage st) pieces (before ++ row (next_key st) v ∷ []) (settled_rows solve_rules pending rows) (Some (next_key st, v ∷ []))) p.is more in
-    subst (λ v. Takes st (name v ∷ pieces) before rows pending) (sym p.is)
-    (made p.head p.tail p.other shown)
-  where
-    made : (x : ℕ) (xs : List ℕ) → eqb x 45 ≡ false
-        → Takes (next_stage st) pieces (before ++ row (next_key st) (x ∷ xs) ∷ []) (settled_rows solve_rules pending rows) (Some (next_key st, (x ∷ xs) ∷ []))
-        → Takes st (name (x ∷ xs) ∷ pieces) before rows pending
-    made x xs other h =
-        let step = name_walks st rows pending x xs other more_names in
-        record {
-          rows_are = ap (λ w. rows_at_end (fold (walked solve_rules []) w (spelling pieces))) step ∙ h.rows_are
-              ∙ append_assoc before (row (next_key st) (x ∷ xs) ∷ []) (rows_for (next_stage st) pieces);
-          settles = ap (λ w. settle_passes solve_rules false (fold (walked solve_rules []) w (spelling pieces)).held) step ∙ h.settles;
-          passes = name_passes st rows pending x xs (spelling pieces) other more_names may h.passes;
-        }
+run_on : (s : Shape) (w then : Walk) (word : Text) (words : List Text) (fault : Kinds) → Turn s w word fault then → run_fault s w (word ∷ words) ≡ or_else fault (run_fault s then words)
+run_on s w then word words fault t = first_turn s w word words ∙ ap₂ (λ f v. or_else f (run_fault s v words)) t.fault_is t.walks
 
-first≢both : first ≢ both
-first≢both e = cc
+rows_on : (s : Shape) (w then : Walk) (word : Text) (words : List Text) (fault : Kinds) → Turn s w word fault then → run_rows s w (word ∷ words) ≡ run_rows s then words
+rows_on s w then word words fault t = ap (λ v. run_rows s v words) t.walks
 
-second≢both : second ≢ both
-second≢both e = cc
+-- a word that is out of place is a fault of all
+out_of_place : (s : Shape) (w : Walk) (word : Text) (words : List Text) (fault : Kinds) → turn_fault s [] w word ≡ fault → run_fault s w (word ∷ words) ≡ [] → fault ≡ []
+out_of_place s w word words fault is e = sym is ∙ (both_nil (turn_fault s [] w word) _ (sym (first_turn s w word words) ∙ e)).0
 
-takes_on : (st : Stage) (there : Setting → Bool) (pieces : List Piece) (before rows : List Row) (pending : Option (Text × List Text)) → settled_rows solve_rules pending rows ≡ before
-    → settle_passes solve_rules false (held rows pending) ≡ true → Holds st there before → Fits st there pieces → Takes st pieces before rows pending
-takes_on st there [] before rows pending settled may holds fits = record { rows_are = settled ∙ sym (append-nil before); settles = may; passes = ends st rows pending }
-takes_on first there (name word ∷ pieces) before rows pending settled may holds fits =
-    takes_name first word pieces before rows pending first≢both (plain word fits.0) settled may
-    (takes_on second there pieces (before ++ row (next_key first) word ∷ []) (settled_rows solve_rules pending rows) (Some (next_key first, word ∷ []))
-    (ap (settled_rows solve_rules (Some (next_key first, word ∷ []))) settled ∙ name_settles first word before (next_absent first there before first≢both holds))
-    (ap (λ rs. settle_passes solve_rules false (held rs (Some (next_key first, word ∷ [])))) settled ∙ name_may first word before (next_absent first there before first≢both holds))
-    (holds_name first there before word first≢both holds) fits.1)
-takes_on second there (name word ∷ pieces) before rows pending settled may holds fits =
-    takes_name second word pieces before rows pending second≢both (plain word fits.0) settled may
-    (takes_on both there pieces (before ++ row (next_key second) word ∷ []) (settled_rows solve_rules pending rows) (Some (next_key second, word ∷ []))
-    (ap (settled_rows solve_rules (Some (next_key second, word ∷ []))) settled ∙ name_settles second word before (next_absent second there before second≢both holds))
-    (ap (λ rs. settle_passes solve_rules false (held rs (Some (next_key second, word ∷ [])))) settled ∙ name_may second word before (next_absent second there before second≢both holds))
-    (holds_name second there before word second≢both holds) fits.1)
-takes_on both there (name word ∷ pieces) before rows pending settled may holds fits = absurd fits
-takes_on st there (given s value ∷ pieces) before rows pending settled may holds fits =
-    let none : has_row (key s) before ≡ false = holds.options s ∙ fits.0 in
-    takes_given st s value pieces before rows pending (plain value fits.1) settled may
-    (takes_on st (with_option s there) pieces (before ++ row (key s) value ∷ []) (settled_rows solve_rules pending rows) (Some (key s, value ∷ []))
-    (ap (settled_rows solve_rules (Some (key s, value ∷ []))) settled ∙ given_settles s value before none)
-    (ap (λ rs. settle_passes solve_rules false (held rs (Some (key s, value ∷ [])))) settled ∙ given_may s value before none)
-    (holds_given st there before s value holds) fits.2)
+not_there : (b : Bool) → cond b (ArgumentConflict ∷ []) [] ≡ [] → b ≡ false
+not_there true e = cc
+not_there false e = refl
 
-abbrev pub nothing_there : Setting → Bool
-nothing_there s = false
+-- the words are pieces that fit, and these are their rows
+pub record Found (parts : List Part) (ids : List Text) (before result : List Row) (words : List Text) : Type 0 where
+  pub pieces : List Piece
+  pub spelled : words ≡ spelling pieces
+  pub fits : Fits (options parts) ids pieces
+  pub rows_are : result ≡ before ++ rows_for ids pieces
+  pub few : Few (before ++ rows_for ids pieces)
 
-takes_all : (pieces : List Piece) → Fits first nothing_there pieces → Takes first pieces [] [] None
-takes_all pieces fits = takes_on first nothing_there pieces [] [] None refl refl (record { instance = refl; solution = refl; options = λ s. refl }) fits
+module _ (title : Text) (parts : List Part) where
+  abbrev rs : List Rule
+  rs = rules_from 1 parts
 
--- the rows of `solve`
-pub solve_rows : (pieces : List Piece) → Fits first nothing_there pieces → rows_after solve_rules [] (spelling pieces) ≡ rows_for first pieces
-solve_rows pieces fits = no_defaults _ ∙ (takes_all pieces fits).rows_are
+  abbrev s : Shape
+  s = leaf title (rules_from 1 parts)
 
-is_there : (id : Text) (value : List ℕ) (rows : List Row) → find (λ r. bytes_eq r.id id) rows ≡ Some (row id value) → is_given id rows ≡ true
-is_there id value rows e = ap (λ o. option_map_or (λ (r : Row). explicit_source r.source) o false) e
+  long_is : (o : Text) (b : Bool) → has o (options parts) ≡ b → arg_by_long rs o ≡ cond b (Some (ours o (Some o) None)) None
+  long_is o b is = by_long 1 parts o ∙ ap (λ b. cond b (Some (ours o (Some o) None)) None) is
 
-pub solve_passes : (pieces : List Piece) → Fits first nothing_there pieces → level_passes solve_shape [] nothing_held (spelling pieces) false ≡ true
-solve_passes pieces fits =
-    let all = takes_all pieces fits in
-    let named = two_names nothing_there pieces fits in
-    let rows : finished solve_rules (walk solve_rules [] nothing_held (spelling pieces)).held ≡ rows_for first pieces = solve_rows pieces fits in
-    let is_valid_here : is_valid solve_shape (finished solve_rules (walk solve_rules [] nothing_held (spelling pieces)).held) false ≡ true =
-    ap (λ rs. is_valid solve_shape rs false) rows
-    ∙ valid (rows_for first pieces) (is_there (codes "instance") named.instance (rows_for first pieces) named.instance_row) (is_there (codes "solution") named.solution (rows_for first pieces) named.solution_row) in
-    and_all _ _ _ all.passes all.settles is_valid_here
-  where
-    and_all : (a b c : Bool) → a ≡ true → b ≡ true → c ≡ true → (a && (b && (true && c))) ≡ true
-    and_all true true true p q r = refl
-    and_all false b c p q r = cc
-    and_all true false c p q r = cc
-    and_all true true false p q r = cc
+  -- what is pending may be used, and is then one of the rows
+  abbrev Settles : List Row → List Row → Option (Text × List Text) → Type 0
+  Settles before rows pending = settle_fault rs false (held rows pending) ≡ [] → (settled_rows rs pending rows ≡ before) × Few before
+
+  settles_more : (before rows : List Row) (id value : Text) → rows ≡ before → Few before → Known rs id → Settles (before ++ row id value ∷ []) rows (Some (id, value ∷ []))
+  settles_more before rows id value same few known e =
+      let none : has_row id rows ≡ false = not_there (has_row id rows) (sym (use_fault_is rs rows id known value) ∙ e) in
+      (settles rs rows id known value none ∙ ap (λ r. r ++ row id value ∷ []) same, few_more before id value few (ap (has_row id) (sym same) ∙ none))
+
+  pub record Finds (words : List Text) : Type 0 where
+    pub here : (ids : List Text) (before rows : List Row) (pending : Option (Text × List Text)) (place : ℕ) → At rs place ids → Settles before rows pending
+        → run_fault s (between rows pending place idle) words ≡ [] → Found parts ids before (run_rows s (between rows pending place idle) words) words
+    pub waiting : (ids : List Text) (before rows : List Row) (id : Text) (place : ℕ) → At rs place ids → rows ≡ before → Few before → has id (options parts) ≡ true
+        → run_fault s (between rows (Some (id, [])) place (option id)) words ≡ [] → Found parts ids before (run_rows s (between rows (Some (id, [])) place (option id)) words) (dashed id ∷ words)
+
+  with_row : (ids more : List Text) (before result now : List Row) (id value : Text) (words : List Text) (piece : Piece) (f : Found parts ids (before ++ row id value ∷ []) now words) → result ≡ now
+      → (all : List Text) → all ≡ spelling (piece ∷ f.pieces) → Fits (options parts) more (piece ∷ f.pieces) → rows_for more (piece ∷ f.pieces) ≡ row id value ∷ rows_for ids f.pieces
+      → Found parts more before result all
+  with_row ids more before result now id value words piece f same all spelled fits rows_are =
+      let joined : (before ++ row id value ∷ []) ++ rows_for ids f.pieces ≡ before ++ rows_for more (piece ∷ f.pieces) =
+      append_assoc before (row id value ∷ []) (rows_for ids f.pieces) ∙ ap (λ r. before ++ r) (sym rows_are) in
+      record { pieces = piece ∷ f.pieces; spelled = spelled; fits = fits; rows_are = same ∙ f.rows_are ∙ joined; few = subst Few joined f.few }
+
+  found_here : (word : Text) (words : List Text) → View word → Finds words → (ids : List Text) (before rows : List Row) (pending : Option (Text × List Text)) (place : ℕ)
+      → At rs place ids → Settles before rows pending → run_fault s (between rows pending place idle) (word ∷ words) ≡ []
+      → Found parts ids before (run_rows s (between rows pending place idle) (word ∷ words)) (word ∷ words)
+  found_here word words (plain v is) more [] before rows pending place at settled e =
+      let none = out_of_place s (between rows pending place idle) v words _ (stray_turn title rs rows place pending v is at) e in
+      cc
+  found_here word words (plain v is) more (id ∷ ids) before rows pending place at settled e =
+      let t = name_turn title rs rows place pending v id is at.0 in
+      let b = both_nil _ _ (sym (run_on s _ _ v words _ t) ∙ e) in
+      let st = settled b.0 in
+      let f = more.here ids (before ++ row id v ∷ []) _ _ (next place) at.2 (settles_more before (settled_rows rs pending rows) id v st.0 st.1 at.1) b.1 in
+      with_row ids (id ∷ ids) before _ _ id v words (name v) f (rows_on s _ _ v words _ t) (v ∷ words) (ap (λ ws. v ∷ ws) f.spelled) (is, f.fits) refl
+  found_here word words (long c cs none) more ids before rows pending place at settled e = go (has (c ∷ cs) (options parts)) refl
+    where
+      go : (b : Bool) → has (c ∷ cs) (options parts) ≡ b → Found parts ids before (run_rows s (between rows pending place idle) ((45 ∷ 45 ∷ c ∷ cs) ∷ words)) ((45 ∷ 45 ∷ c ∷ cs) ∷ words)
+      go false is =
+          let stray = out_of_place s (between rows pending place idle) (45 ∷ 45 ∷ c ∷ cs) words _ (unknown_turn title rs rows place pending idle c cs none (long_is (c ∷ cs) false is)) e in
+          cc
+      go true is =
+          let t = option_turn title rs rows place pending idle c cs none (long_is (c ∷ cs) true is) in
+          let b = both_nil _ _ (sym (run_on s _ _ (45 ∷ 45 ∷ c ∷ cs) words _ t) ∙ e) in
+          let st = settled b.0 in
+          let f = more.waiting ids before _ (c ∷ cs) place at st.0 st.1 is b.1 in
+          record { pieces = f.pieces; spelled = f.spelled; fits = f.fits; rows_are = rows_on s _ _ (45 ∷ 45 ∷ c ∷ cs) words _ t ∙ f.rows_are; few = f.few }
+
+  found_value : (word : Text) (words : List Text) → View word → Finds words → (ids : List Text) (before rows : List Row) (id : Text) (place : ℕ) → At rs place ids → rows ≡ before → Few before
+      → has id (options parts) ≡ true → run_fault s (between rows (Some (id, [])) place (option id)) (word ∷ words) ≡ []
+      → Found parts ids before (run_rows s (between rows (Some (id, [])) place (option id)) (word ∷ words)) (dashed id ∷ word ∷ words)
+  found_value word words (plain v p) more ids before rows id place at same few is e =
+      let known = known_option 1 parts id is in
+      let t = value_turn title rs rows place v id p known in
+      let f = more.here ids (before ++ row id v ∷ []) rows _ place at (settles_more before rows id v same few known) (sym (run_on s _ _ v words _ t) ∙ e) in
+      with_row ids ids before _ _ id v words (given id v) f (rows_on s _ _ v words _ t) (dashed id ∷ v ∷ words) (ap (λ ws. dashed id ∷ v ∷ ws) f.spelled) (is, p, f.fits) refl
+  found_value word words (long c cs none) more ids before rows id place at same few is e = absurd (go (has (c ∷ cs) (options parts)) refl)
+    where
+      go : (b : Bool) → has (c ∷ cs) (options parts) ≡ b → ⊥
+      go false missing =
+          let stray = out_of_place s _ (45 ∷ 45 ∷ c ∷ cs) words _ (unknown_turn title rs rows place (Some (id, [])) (option id) c cs none (long_is (c ∷ cs) false missing)) e in
+          cc
+      go true met =
+          let t = option_turn title rs rows place (Some (id, [])) (option id) c cs none (long_is (c ∷ cs) true met) in
+          let stray = out_of_place s _ (45 ∷ 45 ∷ c ∷ cs) words _ (t.fault_is ∙ empty_fault rs rows id (known_option 1 parts id is)) e in
+          cc
+
+  pub finds : (words : List Text) → list_all is_word words ≡ true → Finds words
+  finds [] all = record {
+    here = λ ids before rows pending place at settled e.
+        let st = settled (sym (no_words s (between rows pending place idle)) ∙ e) in
+        record { pieces = []; spelled = refl; fits = tt; rows_are = st.0 ∙ sym (append-nil before); few = subst Few (sym (append-nil before)) st.1 };
+    waiting = λ ids before rows id place at same few is e.
+        let stray = sym (empty_fault rs rows id (known_option 1 parts id is)) ∙ sym (no_words s (between rows (Some (id, [])) place (option id))) ∙ e in
+        cc;
+  }
+  finds (word ∷ words) all =
+      let b = both (is_word word) _ all in
+      let more = finds words b.1 in
+      record { here = found_here word words (view word b.0) more; waiting = found_value word words (view word b.0) more }
+
+  -- and back
+
+  abbrev Passes : Walk → List Text → List Row → Type 0
+  Passes w words rows = (run_fault s w words ≡ []) × (run_rows s w words ≡ rows)
+
+  passes_on : (w then : Walk) (word : Text) (words : List Text) (fault : Kinds) (rows : List Row) → Turn s w word fault then → fault ≡ [] → Passes then words rows → Passes w (word ∷ words) rows
+  passes_on w then word words fault rows t may more =
+      (run_on s w then word words fault t ∙ ap (λ f. or_else f (run_fault s then words)) may ∙ more.0, rows_on s w then word words fault t ∙ more.1)
+
+  -- one row more is used in its turn
+  pub record Uses (before rows : List Row) (id value : Text) (rest : List Row) : Type 0 where
+    pub may : settle_fault rs false (held rows (Some (id, value ∷ []))) ≡ []
+    pub settled : settled_rows rs (Some (id, value ∷ [])) rows ≡ before ++ row id value ∷ []
+    pub few : Few ((before ++ row id value ∷ []) ++ rest)
+    pub joined : (before ++ row id value ∷ []) ++ rest ≡ before ++ row id value ∷ rest
+
+  uses : (before rows : List Row) (id value : Text) (rest : List Row) → Known rs id → rows ≡ before → Few (before ++ row id value ∷ rest) → Uses before rows id value rest
+  uses before rows id value rest known same few =
+      let none : has_row id rows ≡ false = ap (has_row id) same ∙ fresh before id value rest few in
+      let joined = append_assoc before (row id value ∷ []) rest in
+      record {
+        may = use_fault_is rs rows id known value ∙ ap (λ b. cond b (ArgumentConflict ∷ []) []) none;
+        settled = settles rs rows id known value none ∙ ap (λ r. r ++ row id value ∷ []) same;
+        few = subst Few (sym joined) few;
+        joined = joined;
+      }
+
+  pub passes : ((o : Text) → has o (options parts) ≡ true → is_word (dashed o) ≡ true) → (pieces : List Piece) (ids : List Text) (before rows : List Row) (pending : Option (Text × List Text)) (place : ℕ)
+      → At rs place ids → settle_fault rs false (held rows pending) ≡ [] → settled_rows rs pending rows ≡ before → Fits (options parts) ids pieces → Few (before ++ rows_for ids pieces)
+      → Passes (between rows pending place idle) (spelling pieces) (before ++ rows_for ids pieces)
+  passes bare [] ids before rows pending place at may settled fits few = (no_words s (between rows pending place idle) ∙ may, settled ∙ sym (append-nil before))
+  passes bare (name word ∷ pieces) [] before rows pending place at may settled fits few = absurd fits
+  passes bare (name word ∷ pieces) (id ∷ ids) before rows pending place at may settled fits few =
+      let u = uses before (settled_rows rs pending rows) id word (rows_for ids pieces) at.1 settled few in
+      let m = passes bare pieces ids (before ++ row id word ∷ []) (settled_rows rs pending rows) (Some (id, word ∷ [])) (next place) at.2 u.may u.settled fits.1 u.few in
+      passes_on _ _ word (spelling pieces) _ _ (name_turn title rs rows place pending word id fits.0 at.0) may (m.0, m.1 ∙ u.joined)
+  passes bare (given [] value ∷ pieces) ids before rows pending place at may settled fits few = let no_option = bare [] fits.0 in cc
+  passes bare (given (c ∷ cs) value ∷ pieces) ids before rows pending place at may settled fits few =
+      let known = known_option 1 parts (c ∷ cs) fits.0 in
+      let u = uses before (settled_rows rs pending rows) (c ∷ cs) value (rows_for ids pieces) known settled few in
+      let m = passes bare pieces ids (before ++ row (c ∷ cs) value ∷ []) (settled_rows rs pending rows) (Some (c ∷ cs, value ∷ [])) place at u.may u.settled fits.2 u.few in
+      passes_on _ _ (dashed (c ∷ cs)) (value ∷ spelling pieces) _ _
+      (option_turn title rs rows place pending idle c cs (no_equals c cs (bare (c ∷ cs) fits.0)) (long_is (c ∷ cs) true fits.0)) may
+      (passes_on _ _ value (spelling pieces) _ _ (value_turn title rs (settled_rows rs pending rows) place value (c ∷ cs) fits.1 known) refl (m.0, m.1 ∙ u.joined))

@@ -1,38 +1,38 @@
 -- The commands of the program, as `clap` sees them, and what its matches ask for.
-use Rattle.std.specs.Prelude.{◌≡◌, ◌≢◌, [], List, codes, Some, true, option_to_list}
-use Rattle.clap.specs.Walk.{Row, Rule, Text, first_of}
-use Rattle.clap.specs.Simple.{App, new_app, new_rule, with_rule, with_subcommand}
+use Rattle.std.specs.Prelude.{◌≡◌, ◌≢◌, ◌++◌, [], List, codes, Some, true, map, option_to_list}
+use Rattle.std.specs.List.{fold}
+use Rattle.clap.specs.Walk.{Row as Found, Rule, Text, first_of}
+use Rattle.clap.specs.Simple.{App, new_shape, new_rule, with_subcommand}
 use Rattle.clap.specs.declared.builder.action.ArgAction.TheVariants.{Set}
-use Rattle.centre_words.specs.Words.{IsChosen, IsGiven}
+use Rattle.centre_words.specs.Table.{Item, Row, file, choice, turns, seed, flips, table}
+use Rattle.centre_words.specs.Words.{IsChosen}
 use Rattle.centre_words.specs.declared.asked.Asked.{Asked}
 use Rattle.centre_words.specs.declared.asked.Asked.TheVariants as asked
 
--- a required positional
-abbrev pub needed : Text → Rule
-needed id = record (new_rule id) { required = true; action = Some Set }
+abbrev pub place_rule : Text → Rule
+place_rule id = record (new_rule id) { action = Some Set }
 
 -- an option with one value
 abbrev pub option_rule : Text → Rule
 option_rule id = record (new_rule id) { long = Some id; action = Some Set }
 
+abbrev pub item_rule : Item → Rule
+item_rule (file id) = place_rule id
+item_rule (choice number) = option_rule number.name
+
+abbrev pub with_rules : App → List Rule → App
+with_rules a rules = record a { top = record a.top { rules = a.top.rules ++ rules } }
+
 -- a command with no help and no version
 abbrev pub bare : Text → App
-bare name = record { top = record (new_app name).top { disable_help_flag = true; disable_version_flag = true }; subs = [] }
+bare name = record { top = record (new_shape name) { disable_help_flag = true; disable_version_flag = true }; subs = [] }
 
-abbrev pub check_app : App
-check_app = with_rule (bare (codes "check")) (needed (codes "instance"))
-
-abbrev pub score_app : App
-score_app = with_rule (with_rule (bare (codes "score")) (needed (codes "instance"))) (needed (codes "solution"))
-
-abbrev pub solve_app : App
-solve_app =
-    with_rule (with_rule (with_rule (with_rule (with_rule (bare (codes "solve")) (needed (codes "instance"))) (needed (codes "solution")))
-    (option_rule (codes "turns"))) (option_rule (codes "seed"))) (option_rule (codes "flips"))
+abbrev pub app_of_row : Row → App
+app_of_row row = with_rules (bare row.name) (map item_rule row.items)
 
 abbrev pub top_app : App
 top_app = record {
-  top = record (new_app (codes "flipcentre")).top {
+  top = record (new_shape (codes "flipcentre")) {
     disable_help_flag = true;
     disable_version_flag = true;
     disable_help_subcommand = true;
@@ -42,19 +42,25 @@ top_app = record {
   subs = [];
 }
 
+abbrev pub with_commands : App → List Row → App
+with_commands a rows = fold (λ above row. with_subcommand above (app_of_row row).top) a rows
+
 abbrev pub the_app : App
-the_app = with_subcommand (with_subcommand (with_subcommand top_app check_app.top) score_app.top) solve_app.top
+the_app = with_commands top_app table
 
 -- the first value of an argument, as a list
-abbrev pub values_in : List Row → Text → List Text
-values_in rows id = option_to_list (first_of id rows)
+abbrev pub values_in : List Found → Text → List Text
+values_in found id = option_to_list (first_of id found)
 
 -- the matches of a command ask for this
-abbrev pub AsksBy : Text → List Row → Asked → Type 0
-AsksBy command rows (asked.Check instance) = (command ≡ codes "check") × (first_of (codes "instance") rows ≡ Some instance)
-AsksBy command rows (asked.Score instance solution) =
-    (command ≡ codes "score") × (first_of (codes "instance") rows ≡ Some instance) × (first_of (codes "solution") rows ≡ Some solution)
-AsksBy command rows (asked.Solve instance solution turns seed flips) =
-    (command ≡ codes "solve") × (first_of (codes "instance") rows ≡ Some instance) × (first_of (codes "solution") rows ≡ Some solution)
-    × (instance ≢ solution) × IsChosen 64 1000000 (values_in rows (codes "turns")) turns
-    × IsChosen 1 18446744073709551615 (values_in rows (codes "seed")) seed × IsGiven 1000000000 (values_in rows (codes "flips")) flips
+abbrev pub AsksBy : Text → List Found → Asked → Type 0
+AsksBy command found (asked.Check instance) = (command ≡ codes "check") × (first_of (codes "instance") found ≡ Some instance)
+AsksBy command found (asked.Score instance solution) =
+    (command ≡ codes "score") × (first_of (codes "instance") found ≡ Some instance) × (first_of (codes "solution") found ≡ Some solution)
+AsksBy command found (asked.Solve instance solution n_turns n_seed n_flips) =
+    (command ≡ codes "solve") × (first_of (codes "instance") found ≡ Some instance) × (first_of (codes "solution") found ≡ Some solution)
+    × (instance ≢ solution) × IsChosen turns (values_in found turns.name) (Some n_turns)
+    × IsChosen seed (values_in found seed.name) (Some n_seed) × IsChosen flips (values_in found flips.name) n_flips
+AsksBy command found (asked.Verify instance solution certificate) =
+    (command ≡ codes "verify") × (first_of (codes "instance") found ≡ Some instance) × (first_of (codes "solution") found ≡ Some solution)
+    × (first_of (codes "certificate") found ≡ Some certificate)

@@ -1,3 +1,5 @@
 pub mod Commands
 pub mod PlainWords
+pub mod Rows
+pub mod Table
 pub mod Words

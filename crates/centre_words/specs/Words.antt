@@ -1,8 +1,10 @@
 -- What the words of a command line ask for.
-use Rattle.std.specs.Prelude.{◌≡◌, ◌≢◌, ℕ, ◌≤◌, Bool, true, false, List, [], ◌∷◌, Option, Some, None, length, codes, cond, map, string_bytes, String}
-use Rattle.std.specs.List.{All}
+use Rattle.std.specs.Prelude.{◌≡◌, ◌≢◌, ◌++◌, ℕ, ◌≤◌, true, List, [], ◌∷◌, Option, Some, None, length, codes, cond, map, string_bytes, String}
+use Rattle.std.specs.List.{All, list_any}
+use Rattle.std.specs.Str.{bytes_eq}
 use Rattle.std.specs.Str.Parse.{IsNumeral, digits_value}
 use Rattle.std.specs.declared.alloc.Global.{Global}
+use Rattle.centre_words.specs.Table.{Number, turns, seed, flips, options_of, solve_row}
 use Rattle.centre_words.specs.declared.asked.Asked.{Asked}
 use Rattle.centre_words.specs.declared.asked.Asked.TheVariants as asked
 
@@ -22,81 +24,63 @@ pub record IsNumberUpTo (most : ℕ) (word : List ℕ) (n : ℕ) : Type 0 where
   pub value : n ≡ digits_value 10 word
   pub small : n ≤ most
 
--- the options of `solve`
-pub data Setting : Type 0 where
-  Turns : Setting
-  Seed : Setting
-  Flips : Setting
-
 -- the word that stands before an option's value
-abbrev pub word_of : Setting → List ℕ
-word_of Turns = codes "--turns"
-word_of Seed = codes "--seed"
-word_of Flips = codes "--flips"
-
-abbrev pub is_same : Setting → Setting → Bool
-is_same Turns Turns = true
-is_same Seed Seed = true
-is_same Flips Flips = true
-is_same _ _ = false
+abbrev pub dashed : List ℕ → List ℕ
+dashed option = codes "--" ++ option
 
 -- what may stand behind a command: a name, or an option with its value
 pub data Piece : Type 0 where
   name : (word : List ℕ) → Piece
-  given : (setting : Setting) (value : List ℕ) → Piece
+  given : (option value : List ℕ) → Piece
 
 -- the words of the pieces, one piece after the other
 abbrev pub spelling : List Piece → List (List ℕ)
 spelling [] = []
 spelling (name word ∷ pieces) = word ∷ spelling pieces
-spelling (given setting value ∷ pieces) = word_of setting ∷ value ∷ spelling pieces
+spelling (given option value ∷ pieces) = dashed option ∷ value ∷ spelling pieces
 
--- the name or the value may be one
-abbrev pub IsPlainPiece : Piece → Type 0
-IsPlainPiece (name word) = IsPlain word
-IsPlainPiece (given setting value) = IsPlain value
+-- the name may be one, and the option is one of these and its value may be one
+abbrev pub IsPlainPiece : List (List ℕ) → Piece → Type 0
+IsPlainPiece options (name word) = IsPlain word
+IsPlainPiece options (given option value) = (list_any (λ o. bytes_eq o option) options ≡ true) × IsPlain value
 
 -- the names, in the order in which they stand
 abbrev pub names_of : List Piece → List (List ℕ)
 names_of [] = []
 names_of (name word ∷ pieces) = word ∷ names_of pieces
-names_of (given setting value ∷ pieces) = names_of pieces
+names_of (given option value ∷ pieces) = names_of pieces
 
 -- the values that an option is given, in the order in which they stand
-abbrev pub values_of : Setting → List Piece → List (List ℕ)
-values_of setting [] = []
-values_of setting (name word ∷ pieces) = values_of setting pieces
-values_of setting (given other value ∷ pieces) = cond (is_same setting other) (value ∷ values_of setting pieces) (values_of setting pieces)
+abbrev pub values_of : List ℕ → List Piece → List (List ℕ)
+values_of option [] = []
+values_of option (name word ∷ pieces) = values_of option pieces
+values_of option (given other value ∷ pieces) = cond (bytes_eq other option) (value ∷ values_of option pieces) (values_of option pieces)
 
 -- an option that isn't given has its usual number, one that is given once has the number of its value, and none is given twice
-abbrev pub IsChosen : ℕ → ℕ → List (List ℕ) → ℕ → Type 0
-IsChosen usual most [] n = n ≡ usual
-IsChosen usual most (value ∷ []) n = IsNumberUpTo most value n
-IsChosen usual most (value ∷ _ ∷ _) n = ⊥
+abbrev pub IsChosen : Number → List (List ℕ) → Option ℕ → Type 0
+IsChosen number [] n = n ≡ number.usual
+IsChosen number (value ∷ []) None = ⊥
+IsChosen number (value ∷ []) (Some n) = IsNumberUpTo number.most value n
+IsChosen number (value ∷ _ ∷ _) n = ⊥
 
--- the same of an option that has no usual number
-abbrev pub IsGiven : ℕ → List (List ℕ) → Option ℕ → Type 0
-IsGiven most [] n = n ≡ None
-IsGiven most (value ∷ []) None = ⊥
-IsGiven most (value ∷ []) (Some n) = IsNumberUpTo most value n
-IsGiven most (value ∷ _ ∷ _) n = ⊥
-
--- the words are `solve`, two names that differ, and options with their values before, between and behind them: turns up to a million, a seed of 64 bits, and a limit of flips up to a thousand million
-pub record AsksSolve (words : List (List ℕ)) (instance solution : List ℕ) (turns seed : ℕ) (flips : Option ℕ) : Type 0 where
+-- the words are `solve`, two names that differ, and options with their values before, between and behind them
+pub record AsksSolve (words : List (List ℕ)) (instance solution : List ℕ) (n_turns n_seed : ℕ) (n_flips : Option ℕ) : Type 0 where
   pub pieces : List Piece
   pub spelled : words ≡ codes "solve" ∷ spelling pieces
-  pub plain : All IsPlainPiece pieces
+  pub plain : All (IsPlainPiece (options_of solve_row)) pieces
   pub names : names_of pieces ≡ instance ∷ solution ∷ []
   pub differ : instance ≢ solution
-  pub turns_is : IsChosen 64 1000000 (values_of Turns pieces) turns
-  pub seed_is : IsChosen 1 18446744073709551615 (values_of Seed pieces) seed
-  pub flips_is : IsGiven 1000000000 (values_of Flips pieces) flips
+  pub turns_is : IsChosen turns (values_of turns.name pieces) (Some n_turns)
+  pub seed_is : IsChosen seed (values_of seed.name pieces) (Some n_seed)
+  pub flips_is : IsChosen flips (values_of flips.name pieces) n_flips
 
 -- the words are those of the command
 abbrev pub Asks : List (List ℕ) → Asked → Type 0
 Asks words (asked.Check instance) = (words ≡ codes "check" ∷ instance ∷ []) × IsPlain instance
 Asks words (asked.Score instance solution) = (words ≡ codes "score" ∷ instance ∷ solution ∷ []) × IsPlain instance × IsPlain solution
-Asks words (asked.Solve instance solution turns seed flips) = AsksSolve words instance solution turns seed flips
+Asks words (asked.Solve instance solution n_turns n_seed n_flips) = AsksSolve words instance solution n_turns n_seed n_flips
+Asks words (asked.Verify instance solution certificate) =
+    (words ≡ codes "verify" ∷ instance ∷ solution ∷ certificate ∷ []) × IsPlain instance × IsPlain solution × IsPlain certificate
 
 -- the words are those of no command
 abbrev pub IsUnasked : List (List ℕ) → Type 0

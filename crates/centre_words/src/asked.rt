@@ -25,6 +25,12 @@ pub enum Asked {
         seed: u64,
         flips: Option<u64>,
     },
+    /// Whether a certificate proves a solution of an instance the best.
+    Verify {
+        instance: Name,
+        solution: Name,
+        certificate: Name,
+    },
 }
 
 /// Why nothing was read.

@@ -1,28 +1,28 @@
 // The commands of the program, as `clap` builds them.
-ghost use Rattle.std.specs.Prelude.{◌≡◌, IfOk, IfErr, true, false};
-ghost use Rattle.clap.specs.Words.{app_of, rule_of, HasMatchesOf, takes};
+ghost use Rattle.std.specs.Prelude.{◌≡◌, IfOk, IfErr, [], map, false};
+ghost use Rattle.clap.specs.Words.{app_of, rule_of, HasMatchesOf, fault_of};
 ghost use Rattle.clap.specs.declared.builder.command.Command.TheViews.{out-Command};
+ghost use Rattle.centre_words.specs.Rows.{item_of, row_of};
 ghost use Rattle.centre_words.specs.Words.{texts};
-ghost use Rattle.centre_words.specs.Commands.{the_app, bare, needed, option_rule, top_app, check_app, score_app, solve_app};
+ghost use Rattle.centre_words.specs.Commands.{the_app, app_of_row, bare, item_rule, place_rule, option_rule, top_app, with_rules};
 ghost use Rattle.centre_words.specs.declared.asked.WordsFault.TheVariants as faults;
 
 use crate::asked::WordsFault;
+use crate::table::{Item, Row, rows};
 use clap::error::ErrorKind;
 use clap::{Arg, ArgAction, ArgMatches, Command};
 use std::alloc::{AllocError, Global};
 
-fn positional<'a>(alloc: Global, id: &'a str) -> Arg<'a>
-    ensures rule { rule_of result ≡ needed id.entry.now }
+fn item_arg<'a>(alloc: Global, item: Item) -> Arg<'a>
+    ensures rule { rule_of result ≡ item_rule (item_of item) }
     ensures local { result.global ≡ false }
 {
-    Arg::new(alloc, id).required(true).action(ArgAction::Set)
-}
-
-fn option<'a>(alloc: Global, id: &'a str) -> Arg<'a>
-    ensures rule { rule_of result ≡ option_rule id.entry.now }
-    ensures local { result.global ≡ false }
-{
-    Arg::new(alloc, id).long(id).action(ArgAction::Set)
+    match item {
+        Item::File(id) => Arg::new(alloc, id).action(ArgAction::Set),
+        Item::Choice(number) => Arg::new(alloc, number.name)
+            .long(number.name)
+            .action(ArgAction::Set),
+    }
 }
 
 fn bare_command<'a>(alloc: Global, name: &'a str) -> Command<'a>
@@ -45,50 +45,33 @@ fn top_command<'a>(alloc: Global) -> Command<'a>
         .subcommand_required(true)
 }
 
-fn check_command<'a>(alloc: Global) -> Result<Command<'a>, AllocError>
-    ensures app { IfOk result (λ c. app_of c ≡ check_app) }
+fn row_command<'a>(alloc: Global, row: Row) -> Result<Command<'a>, AllocError>
+    ensures app { IfOk result (λ c. app_of c ≡ app_of_row (row_of row)) }
     ensures local { IfOk result (λ c. (out-Command c).has_globals ≡ false) }
 {
-    bare_command(alloc, "check").arg(positional(alloc, "instance"))
-}
-
-fn score_command<'a>(alloc: Global) -> Result<Command<'a>, AllocError>
-    ensures app { IfOk result (λ c. app_of c ≡ score_app) }
-    ensures local { IfOk result (λ c. (out-Command c).has_globals ≡ false) }
-{
-    bare_command(alloc, "score")
-        .arg(positional(alloc, "instance"))?
-        .arg(positional(alloc, "solution"))
-}
-
-fn solve_command<'a>(alloc: Global) -> Result<Command<'a>, AllocError>
-    ensures app { IfOk result (λ c. app_of c ≡ solve_app) }
-    ensures local { IfOk result (λ c. (out-Command c).has_globals ≡ false) }
-{
-    bare_command(alloc, "solve")
-        .arg(positional(alloc, "instance"))?
-        .arg(positional(alloc, "solution"))?
-        .arg(option(alloc, "turns"))?
-        .arg(option(alloc, "seed"))?
-        .arg(option(alloc, "flips"))
+    let mut command = bare_command(alloc, row.name);
+    for item in row.items {
+        command = command.arg(item_arg(alloc, *item))?;
+    }
+    Ok(command)
 }
 
 fn command<'a>(alloc: Global) -> Result<Command<'a>, AllocError>
     ensures { IfOk result (λ c. app_of c ≡ the_app) }
 {
-    let check = check_command(alloc)?;
-    let score = score_command(alloc)?;
-    let solve = solve_command(alloc)?;
-    top_command(alloc)
-        .subcommand(check)?
-        .subcommand(score)?
-        .subcommand(solve)
+    let mut command = top_command(alloc);
+    for row in rows() {
+        let below = row_command(alloc, *row)?;
+        command = command.subcommand(below)?;
+    }
+    Ok(command)
 }
 
 /// What `clap` makes of the words.
 pub fn parse<'a>(alloc: Global, words: &'a [String]) -> Result<ArgMatches<'a>, WordsFault>
     ensures matches { IfOk result (HasMatchesOf the_app (texts words.entry.now)) }
-    ensures passes { IfErr result (λ e. takes the_app (texts words.entry.now) ≡ true → e ≡ faults.OutOfMemory) }
+    ensures passes { IfOk result (λ _. fault_of the_app (texts words.entry.now) ≡ []) }
+    ensures refuses { IfErr result (λ e. fault_of the_app (texts words.entry.now) ≡ [] → e ≡ faults.OutOfMemory) }
 {
     match command(alloc)?.try_get_matches_from(words) {
         Ok(matches) => Ok(matches),

@@ -3,10 +3,12 @@
 
 mod asked;
 mod command;
+mod meaning;
 mod name;
 mod number;
 mod plain;
 mod read;
+mod table;
 mod threads;
 
 pub use asked::{Asked, WordsFault};

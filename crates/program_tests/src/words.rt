@@ -57,7 +57,6 @@ fn other_words_are_refused(rt: HostRuntime) -> Result<(), Fail> {
     let rows = [
         "",
         "solve",
-        "verify q",
         "check",
         "check q s",
         "check -q",
@@ -65,6 +64,13 @@ fn other_words_are_refused(rt: HostRuntime) -> Result<(), Fail> {
         "check q --turns 1",
         "score q",
         "score q s t",
+        "verify",
+        "verify q s",
+        "verify q s c d",
+        "verify q s ",
+        "verify -q s c",
+        "verify q s -c",
+        "verify q s c --turns 1",
         "solve q",
         "solve q s t",
         "solve q q",
@@ -115,5 +121,19 @@ fn names_stand_in_order(rt: HostRuntime) -> Result<(), Fail> {
     };
     assert_eq!(rt; read(alloc, "score q q")?, Some(same));
     assert_eq!(rt; Name::of(alloc, "é")?.text(), "é");
+    Ok(())
+}
+
+#[test]
+fn verify_has_three_names(rt: HostRuntime) -> Result<(), Fail> {
+    let alloc = rt.alloc();
+    for (line, certificate) in [("verify q s c", "c"), ("verify q s q", "q")] {
+        let verify = Asked::Verify {
+            instance: Name::of(alloc, "q")?,
+            solution: Name::of(alloc, "s")?,
+            certificate: Name::of(alloc, certificate)?,
+        };
+        assert_eq!(rt; read(alloc, line)?, Some(verify), "{line}");
+    }
     Ok(())
 }

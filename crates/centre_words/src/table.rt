@@ -1,0 +1,82 @@
+// The commands of the program, a row each.
+ghost use Rattle.std.specs.Prelude.{◌≡◌};
+ghost use Rattle.centre_words.specs.Table.{table};
+ghost use Rattle.centre_words.specs.Rows.{row_of, rows_of};
+
+/// A number that a word may spell.
+#[derive(Clone, Copy, Drop)]
+pub struct Number {
+    pub name: &'static str,
+    pub most: u64,
+    /// What counts where no word spells it.
+    pub usual: Option<u64>,
+}
+
+/// What stands behind a command: in its place, or an option anywhere.
+#[derive(Clone, Copy, Drop)]
+pub enum Item {
+    File(&'static str),
+    Choice(Number),
+}
+
+/// A command.
+#[derive(Clone, Copy, Drop)]
+pub struct Row {
+    pub name: &'static str,
+    pub items: &'static [Item],
+}
+
+pub const TURNS: Number = Number {
+    name: "turns",
+    most: 1_000_000,
+    usual: Some(64),
+};
+
+pub const SEED: Number = Number {
+    name: "seed",
+    most: u64::MAX,
+    usual: Some(1),
+};
+
+// The greatest number of flips that a run may be allowed.
+pub const FLIPS: Number = Number {
+    name: "flips",
+    most: 1_000_000_000,
+    usual: None,
+};
+
+static ROWS: [Row; 4] = [
+    Row {
+        name: "check",
+        items: &[Item::File("instance")],
+    },
+    Row {
+        name: "score",
+        items: &[Item::File("instance"), Item::File("solution")],
+    },
+    Row {
+        name: "solve",
+        items: &[
+            Item::File("instance"),
+            Item::File("solution"),
+            Item::Choice(TURNS),
+            Item::Choice(SEED),
+            Item::Choice(FLIPS),
+        ],
+    },
+    Row {
+        name: "verify",
+        items: &[
+            Item::File("instance"),
+            Item::File("solution"),
+            Item::File("certificate"),
+        ],
+    },
+];
+
+/// The rows, in the order in which they were written.
+pub fn rows() -> &'static [Row]
+    ensures { rows_of result.now ≡ table }
+{
+    &ROWS
+}
