@@ -1,5 +1,5 @@
 -- The crossings of a segment with a triangulation are the frame's pairs of it with a member, and how those are counted pair by pair.
-use Rattle.std.proofs.Common.{◌≡◌, ◌≢◌, ◌⊎◌, inl, inr, ◌↔◌, ℕ, ◌+◌, ◌-◌, ◌*◌, ◌^◌, ◌<◌, ◌≤◌, Bool, true, false, cond, not, ◌&&◌, ◌||◌, eqb, List, [], ◌∷◌, ◌++◌, length, length-append, map, take, get_or, replicate, Contains, refl, sym, ap, ap₂, ◌∙◌, subst, arith}
+use Rattle.std.proofs.Common.{◌≡◌, ◌⊎◌, inl, inr, ◌↔◌, ℕ, ◌+◌, ◌-◌, ◌*◌, ◌^◌, ◌<◌, ◌≤◌, Bool, true, false, cond, not, ◌&&◌, ◌||◌, eqb, List, [], ◌∷◌, ◌++◌, length, length-append, map, take, get_or, replicate, Contains, refl, sym, ap, ap₂, ◌∙◌, subst, arith}
 use Rattle.std.specs.Bool.{Decides, IsTrue}
 use Rattle.std.specs.List.{All, AllPairs, filter, count_by, sum_by}
 use Rattle.std.specs.Int.Count.{count_leading_zeros}
@@ -20,7 +20,7 @@ use Rattle.std.proofs.lemmas.List.Sums.{length-filter, sum_by-cons, sum_by_more,
 use native.Mathlib.Decide.{dec_lt, ℕ_discrete}
 use Rattle.geo_orient.specs.declared.Point.{Point}
 use Rattle.edge_table.specs.declared.edge.Edge.{Edge}
-use Rattle.edge_table.specs.Edges.{is_edge, is_member, IsBefore, IsAscending}
+use Rattle.edge_table.specs.Edges.{is_edge, is_member, IsBefore}
 use Rattle.edge_table.proofs.Ascending.{before_cases, before_joins, not_before_itself, same_members}
 use Rattle.tri_theory.specs.Triangulations.{Crosses, IsTriangulation}
 use Rattle.tri_theory.specs.Crossings.{crosses, crossings}
@@ -29,7 +29,7 @@ use Rattle.crossing_law.proofs.Counts.{cross_decided, count_split, digits_at_mos
 use Rattle.log_law.proofs.Lists.{pairs_map}
 use Rattle.formula_law.specs.Frames.{Pair, IsPairBefore, Frame, IsFrame}
 use Rattle.formula_law.proofs.Clauses.{both, and, in_filter, filtered, mapped, in_map}
-use Rattle.formula_law.proofs.EdgeTests.{edge_equal, edge_itself, edge_test, member_true, true_member}
+use Rattle.formula_law.proofs.EdgeTests.{edge_equal, edge_itself, member_true, true_member}
 use Rattle.formula_parts.specs.Lists.{no_edge, edge_at, linked}
 use Rattle.formula_parts.specs.Building.{no_pair}
 use Rattle.formula_parts.proofs.Places.{same_segment, other_segment, member_is}

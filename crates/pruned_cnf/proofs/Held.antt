@@ -40,9 +40,6 @@ digits_at points edges segments found n x D l e = e ∙ ap (λ xs. get_or xs n x
 pub most_of_all : (points : List Point) (edges segments : List Edge) (found : List ℕ) (most : ℕ) → AreDigits points edges segments found → All (λ d. d ≤ most) found → (e : Edge) → Contains segments e → digits (crossings points edges e) ≤ most
 most_of_all points edges segments found most D all e h = by_place (mapped (λ e. digits (crossings points edges e)) segments e h)
   where
-    x : ℕ
-    x = digits (crossings points edges e)
-
     by_place : Contains (map (λ e. digits (crossings points edges e)) segments) (digits (crossings points edges e)) → digits (crossings points edges e) ≤ most
     by_place (k, l, i) = subst (λ x. x ≤ most) i (subst (All (λ d. d ≤ most)) D.each all k (digits (crossings points edges e)) l)
 

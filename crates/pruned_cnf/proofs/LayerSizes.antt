@@ -1,5 +1,5 @@
 -- How many clauses a layer and a round of a pruned formula have, and sums over layers.
-use Rattle.std.proofs.Common.{◌≡◌, ◌⊎◌, inl, inr, ℕ, zero, suc, ◌+◌, ◌*◌, ◌<◌, ◌≤◌, Bool, true, false, cond, ◌&&◌, List, [], ◌∷◌, ◌++◌, length, map, take, get_or, Contains, refl, sym, ap, ap₂, ◌∙◌, subst, arith, length-append}
+use Rattle.std.proofs.Common.{◌≡◌, ◌⊎◌, inl, inr, ℕ, zero, suc, ◌+◌, ◌*◌, ◌<◌, ◌≤◌, Bool, true, false, cond, ◌&&◌, List, [], ◌∷◌, ◌++◌, length, map, take, get_or, Contains, refl, sym, ap, ap₂, ◌∙◌, arith, length-append}
 use Rattle.std.specs.List.{filter, flat_map, list_all, sum_by, range_with_len}
 use Rattle.std.proofs.Math.Nat.{mul-le-mul_right}
 use mir.Val.{bool_byte}
@@ -10,7 +10,6 @@ use Rattle.std.proofs.lemmas.List.Filters.{length-filter_more}
 use Rattle.geo_orient.specs.declared.Point.{Point}
 use Rattle.tri_theory.specs.Points.{ArePlaced}
 use Rattle.edge_table.specs.declared.edge.Edge.{Edge}
-use Rattle.edge_table.specs.Edges.{is_edge}
 use Rattle.log_law.specs.declared.Lit.{Lit}
 use Rattle.log_law.specs.Clauses.{Clause}
 use Rattle.tri_theory.specs.Triangulations.{IsTriangulation}

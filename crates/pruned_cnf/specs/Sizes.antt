@@ -18,10 +18,10 @@ change_count q t = length (live_change_clauses q.frame (live_in q) q.rounds t)
 abbrev pub is_live_pair : Query → ℕ → Pair → Bool
 is_live_pair q t g = live_in q t g.0 && live_in q t g.1
 
--- those of one flip: of its twelve demands, one falls away where its edge can't be there after the round, and one where its image can't be there before
+-- the clauses of one flip: of its twelve demands, one falls away where its edge can't be there after the round, and one where its image can't be there before
 abbrev pub size_of_flip : Query → ℕ → Pair → ℕ
 size_of_flip q t g = cond (is_live_flip_in q t g) (10 + cond (live_in q (t + 1) g.0) 1 0 + cond (live_in q t g.1) 1 0) 0
 
--- those of one segment: that it leaves or was never there, where it can be there before the round, and that it comes or is never there, where it can be there after it
+-- the clauses of one segment: one where it can be there before the round, and one where it can be there after it
 abbrev pub size_of_change : Query → ℕ → Edge → ℕ
 size_of_change q t e = cond (live_in q t e) 1 0 + cond (live_in q (t + 1) e) 1 0

@@ -1,7 +1,7 @@
-use Rattle.std.proofs.Common.{◌≡◌, ◌≤◌, ◌<◌, ◌∙◌, length, ap, sym, arith}
+use Rattle.std.proofs.Common.{◌≤◌, ◌<◌, ◌∙◌, length, ap, sym, arith}
 use Rattle.std.specs.List.{filter}
 use Rattle.std.proofs.lemmas.List.{take_all}
-use Rattle.formula_law.specs.Frames.{Pair, Frame}
+use Rattle.formula_law.specs.Frames.{Frame}
 use Rattle.pruned_cnf.specs.Queries.{live_in}
 use Rattle.pruned_cnf.specs.Sizes.{is_live_pair}
 use Rattle.pruned_cnf.proofs.LayerSizes.{counted_on, crossing_size}

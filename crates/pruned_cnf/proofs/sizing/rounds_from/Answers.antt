@@ -1,4 +1,4 @@
-use Rattle.std.proofs.Common.{◌≡◌, ◌<◌, arith}
+use Rattle.std.proofs.Common.{arith}
 use Rattle.pruned_cnf.specs.Sizes.{flip_count, change_count}
 use Rattle.pruned_cnf.proofs.LayerSizes.{sum_next}
 use Rattle.pruned_cnf.proofs.sizing.rounds_from.Goals as goal

@@ -1,4 +1,4 @@
-use Rattle.std.proofs.Common.{◌≡◌, ◌+◌, ◌-◌, ◌*◌, length, ap, ap₂, ◌∙◌, arith}
+use Rattle.std.proofs.Common.{◌≡◌, ◌+◌, ◌-◌, length, ap, ◌∙◌, arith}
 use Rattle.formula_law.specs.Frames.{Frame}
 use Rattle.pruned_cnf.proofs.LayerSizes.{has_middle, two_products}
 use Rattle.pruned_cnf.proofs.sizing.rounds_in.Goals as goal

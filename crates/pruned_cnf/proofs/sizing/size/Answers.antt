@@ -1,5 +1,4 @@
-use Rattle.std.proofs.Common.{◌≡◌, ◌≤◌, length, arith, ap, subst}
-use Rattle.tri_check.specs.Layouts.{IsTriangulated}
+use Rattle.std.proofs.Common.{length, arith, ap}
 use Rattle.formula_law.proofs.Proved.{pruned_clauses_are_counted}
 use Rattle.pruned_cnf.specs.Queries.{live_in}
 use Rattle.pruned_cnf.proofs.LayerSizes.{edges_few}

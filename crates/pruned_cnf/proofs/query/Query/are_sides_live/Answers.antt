@@ -3,7 +3,7 @@ use Rattle.std.specs.List.{list_all}
 use Rattle.formula_law.proofs.Clauses.{all_of}
 use Rattle.formula_parts.specs.Building.{four}
 use Rattle.formula_parts.proofs.Sides.{four_from, four_to, sides_from, sides_to}
-use Rattle.pruned_cnf.specs.Queries.{Query, IsQuery, stays_in}
+use Rattle.pruned_cnf.specs.Queries.{IsQuery, stays_in}
 use Rattle.pruned_cnf.proofs.query.Query.are_sides_live.Goals as goal
 
 pub are_four_live-requires-clause-segments : goal.are_four_live-requires-clause-segments

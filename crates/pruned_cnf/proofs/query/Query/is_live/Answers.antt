@@ -1,4 +1,4 @@
-use Rattle.std.proofs.Common.{◌≡◌, ◌+◌, ◌<◌, length, refl, sym, subst}
+use Rattle.std.proofs.Common.{◌≡◌, ◌+◌, ◌<◌, length, sym, subst}
 use Rattle.std.specs.Prelude.{leb}
 use Rattle.formula_parts.specs.Lists.{edge_at}
 use Rattle.pruned_cnf.specs.Queries.{Query, live_in}

@@ -1,4 +1,4 @@
-use Rattle.std.proofs.Common.{◌≡◌, ◌∙◌, ap, sym, subst}
+use Rattle.std.proofs.Common.{◌≡◌, ◌∙◌, sym, subst}
 use Rattle.std.specs.List.{list_all}
 use Rattle.formula_law.specs.Formula.{sides}
 use Rattle.formula_parts.specs.Building.{pair_at}

@@ -1,5 +1,4 @@
 use Rattle.std.proofs.Common.{◌≡◌, ◌∙◌, refl, ap, subst, arith}
-use Rattle.edge_table.specs.Edges.{edge}
 use Rattle.formula_law.specs.Frames.{IsFrame}
 use Rattle.formula_parts.specs.Lists.{edge_at}
 use Rattle.pruned_cnf.specs.Queries.{Query, stays_in}
