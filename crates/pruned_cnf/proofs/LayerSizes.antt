@@ -1,20 +1,30 @@
 -- How many clauses a layer and a round of a pruned formula have, and sums over layers.
-use Rattle.std.proofs.Common.{◌≡◌, ◌⊎◌, inl, inr, ℕ, zero, suc, ◌+◌, ◌*◌, ◌<◌, ◌≤◌, Bool, true, false, cond, ◌&&◌, List, [], ◌∷◌, ◌++◌, length, map, take, get_or, Contains, refl, sym, ap, ap₂, ◌∙◌, subst, arith, length-append}
+use Rattle.std.proofs.Common.{◌≡◌, ◌⊎◌, inl, inr, ℕ, zero, suc, ◌+◌, ◌*◌, ◌<◌, ◌≤◌, Bool, true, false, cond, ◌&&◌, List, [], ◌∷◌, ◌++◌, length, map, take, get_or, Contains, refl, sym, ap, ap₂, ◌∙◌, arith, length-append}
 use Rattle.std.specs.List.{filter, flat_map, list_all, sum_by, range_with_len}
+use Rattle.std.proofs.Math.Nat.{mul-le-mul_right}
+use mir.Val.{bool_byte}
 use Rattle.std.proofs.lemmas.List.{length-map}
 use Rattle.std.proofs.lemmas.List.Concat.{length-flat_map}
-use Rattle.std.proofs.lemmas.List.Sums.{sum_by-cons}
+use Rattle.std.proofs.lemmas.List.Sums.{sum_by-cons, sum_by_more}
+use Rattle.std.proofs.lemmas.List.Filters.{length-filter_more}
 use Rattle.geo_orient.specs.declared.Point.{Point}
 use Rattle.tri_theory.specs.Points.{ArePlaced}
 use Rattle.edge_table.specs.declared.edge.Edge.{Edge}
-use Rattle.edge_table.specs.Edges.{is_edge}
 use Rattle.log_law.specs.declared.Lit.{Lit}
 use Rattle.log_law.specs.Clauses.{Clause}
+use Rattle.tri_theory.specs.Triangulations.{IsTriangulation}
+use Rattle.crossing_law.proofs.Fewness.{few_edges, ends_are_points}
 use Rattle.formula_law.specs.Frames.{Pair, Frame, IsFrame}
 use Rattle.formula_law.specs.Formula.{literal, sides}
 use Rattle.formula_law.specs.PrunedFormula.{Live, is_live_flip, live_made, if_live, live_demands, live_crossing_clauses, live_flip_clauses, live_leave_clause, live_come_clause, live_change_clauses}
+use Rattle.formula_law.specs.PrunedLaws.{HasMiddle}
+use Rattle.formula_law.proofs.Proved.{middle_layers_are_alike, few_digits_are_live}
 use Rattle.formula_law.proofs.Clauses.{both, true_or_false, true_each, in_first, in_later}
 use Rattle.formula_law.proofs.FormulaCounts.{length_each, four_sides}
+use Rattle.pruned_cnf.specs.Queries.{Query, IsQuery, IsMostDigits, live_in, is_live_flip_in}
+use Rattle.formula_parts.specs.Lists.{no_edge, edge_at}
+use Rattle.formula_parts.specs.Building.{no_pair}
+use Rattle.pruned_cnf.specs.Sizes.{size_of_flip, size_of_change}
 
 -- ---- sums
 pub sum_next : (f : ℕ → ℕ) (a n : ℕ) → sum_by f (range_with_len a (n + 1)) ≡ sum_by f (range_with_len a n) + f (a + n)
@@ -130,3 +140,55 @@ module _ (F : Frame) (live : Live) (k t : ℕ) where
         by_test : (g : Pair) → Contains F.flips g → (is_live_flip F live t g ≡ true) ⊎ (is_live_flip F live t g ≡ false) → cond (is_live_flip F live t g) (length (asked g)) 0 ≡ flip_size g
         by_test g i (inl e) = ap (λ n. cond (is_live_flip F live t g) n 0) (length-map (live_demands F live k t g) (λ l. let d : Clause = literal (live_made F live k t g) false ∷ l ∷ [] in d) ∙ demanded g i e)
         by_test g i (inr e) = ap (λ b. cond b (length (asked g)) 0) e ∙ sym (ap (λ b. cond b (10 + cond (live (t + 1) g.0) 1 0 + cond (live t g.1) 1 0) 0) e)
+
+-- ---- the layers of a query
+pub edges_few : (points : List Point) (edges : List Edge) → length points ≤ 64 → IsTriangulation points edges → length edges ≤ 4096
+edges_few points edges l N =
+    let few = few_edges (length points) edges N.ascending (λ e i. ends_are_points points edges N e i) in
+    let squared = mul-le-mul_right {m = length points} {n = 64} (length points) l in
+    omega (arith, few, squared, l)
+
+pub has_middle : (q : Query) (m j n : ℕ) → IsQuery q → IsMostDigits q q.from m → IsMostDigits q q.to n → q.rounds ≡ m + j + n → HasMiddle q.frame (live_in q) q.rounds m j n
+has_middle q m j n I a b e = middle_layers_are_alike q.points q.frame (live_in q) q.rounds m j n I.placed I.frame e (λ t s l h i. few_digits_are_live q.points q.from q.to q.rounds m n t s (a s i) (b s i) l (omega (arith, h, e)))
+
+-- ---- counting on, and the middle as the code multiplies it out
+pub byte_is : (b : Bool) → bool_byte b ≡ cond b 1 0
+byte_is true = refl
+byte_is false = refl
+
+one_at_most : (b : Bool) → cond b 1 0 ≤ 1
+one_at_most true = omega arith
+one_at_most false = omega arith
+
+pub counted_on : (p : Pair → Bool) (gs : List Pair) (m count byte : ℕ) (b : Bool) → m < length gs → byte ≡ bool_byte b → b ≡ p (get_or gs m no_pair) → (count ≡ length (filter p (take m gs))) × (count ≤ m)
+    → (count + byte ≡ length (filter p (take (m + 1) gs))) × (count + byte ≤ m + 1)
+counted_on p gs m count byte b l e f (c, w) =
+    let x = e ∙ byte_is b ∙ ap (λ b. let n : ℕ = cond b 1 0 in n) f in
+    let y = length-filter_more p gs m no_pair l in
+    let z = one_at_most (p (get_or gs m no_pair)) in
+    (omega (arith, x, y, c), omega (arith, x, z, w))
+
+pub changes_on : (q : Query) (t n count first second : ℕ) (a b : Bool) → n < length q.frame.segments → first ≡ bool_byte a → second ≡ bool_byte b → a ≡ live_in q t (edge_at q.frame.segments n) → b ≡ live_in q (t + 1) (edge_at q.frame.segments n)
+    → (count ≡ sum_by (size_of_change q t) (take n q.frame.segments)) × (count ≤ n * 2)
+    → (count + (first + second) ≡ sum_by (size_of_change q t) (take (n + 1) q.frame.segments)) × (count + (first + second) ≤ (n + 1) * 2)
+changes_on q t n count first second a b l e f g h (c, w) =
+    let x : first ≡ cond (live_in q t (edge_at q.frame.segments n)) 1 0 = e ∙ byte_is a ∙ ap (λ b. let n : ℕ = cond b 1 0 in n) g in
+    let y : second ≡ cond (live_in q (t + 1) (edge_at q.frame.segments n)) 1 0 = f ∙ byte_is b ∙ ap (λ b. let n : ℕ = cond b 1 0 in n) h in
+    let u = one_at_most (live_in q t (edge_at q.frame.segments n)) in
+    let v = one_at_most (live_in q (t + 1) (edge_at q.frame.segments n)) in
+    let z = sum_by_more (size_of_change q t) q.frame.segments n no_edge l in
+    (omega (arith, x, y, z, c), omega (arith, x, y, u, v, w))
+
+pub flip_sized : (q : Query) (t first second : ℕ) (a b : Bool) (g : Pair) → is_live_flip_in q t g ≡ true → first ≡ bool_byte a → second ≡ bool_byte b → a ≡ live_in q (t + 1) g.0 → b ≡ live_in q t g.1 → 10 + first + second ≡ size_of_flip q t g
+flip_sized q t first second a b g i e f h k =
+    let x : first ≡ cond (live_in q (t + 1) g.0) 1 0 = e ∙ byte_is a ∙ ap (λ b. let n : ℕ = cond b 1 0 in n) h in
+    let y : second ≡ cond (live_in q t g.1) 1 0 = f ∙ byte_is b ∙ ap (λ b. let n : ℕ = cond b 1 0 in n) k in
+    let z : size_of_flip q t g ≡ 10 + cond (live_in q (t + 1) g.0) 1 0 + cond (live_in q t g.1) 1 0 = ap (λ b. cond b (10 + cond (live_in q (t + 1) g.0) 1 0 + cond (live_in q t g.1) 1 0) 0) i in
+    omega (arith, x, y, z)
+
+pub two_products : {i j f g s t : ℕ} → i ≡ j → f ≡ g → s ≡ t → i * (12 * f + 2 * s) ≡ j * (g * 12) + j * (t * 2)
+two_products {i} {j} {f} {g} {s} {t} a b c =
+    ap₂ ◌*◌ a (ap₂ (λ x y. 12 * x + 2 * y) b c) ∙ opened j g t
+  where
+    opened : (j g t : ℕ) → j * (12 * g + 2 * t) ≡ j * (g * 12) + j * (t * 2)
+    opened j g t = omega arith

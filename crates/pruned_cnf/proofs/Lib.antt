@@ -1,4 +1,6 @@
 mod Crossed
+mod Held
+mod LayerSizes
 pub mod AddedWhere
 pub mod Chosen
 pub mod FlipChains

@@ -23,8 +23,9 @@ pub record AreDigits (points : List Point) (edges segments : List Edge) (found :
   pub each : found ≡ map (λ e. digits (crossings points edges e)) segments
   pub few : All (λ d. d ≤ 32) found
 
--- what a query keeps: the digits of all crossings with both triangulations
-pub record IsHeld (q : Query) (after before : List ℕ) : Type 0 where
+-- what a query keeps: the digits of all crossings with both triangulations. The second one names the same points
+pub record IsHeld (q : Query) (named : List Point) (after before : List ℕ) : Type 0 where
   pub query : IsQuery q
+  pub same : named ≡ q.points
   pub after_from : AreDigits q.points q.from q.frame.segments after
   pub before_to : AreDigits q.points q.to q.frame.segments before

@@ -6,6 +6,7 @@ mod decoding;
 mod numbering;
 mod query;
 mod sizing;
+mod threads;
 mod writing;
 
 pub use decoding::decode;

@@ -32,9 +32,9 @@ impl<'a> Model for Query<'a> {
 
     ghost Value = { Query };
 
-    ghost view = { λ q. record { points = q.from.points; frame = q.lists; from = q.from.edges; to = q.to.edges; rounds = q.rounds } };
+    ghost view = { λ q. record { points = q.from.now.points; frame = q.lists.now; from = q.from.now.edges; to = q.to.now.edges; rounds = q.rounds } };
 
-    ghost invariant = { λ q. IsHeld (record { points = q.from.points; frame = q.lists; from = q.from.edges; to = q.to.edges; rounds = q.rounds }) q.after_from.items q.before_to.items };
+    ghost invariant = { λ q. IsHeld (record { points = q.from.now.points; frame = q.lists.now; from = q.from.now.edges; to = q.to.now.edges; rounds = q.rounds }) q.to.now.points q.after_from.items q.before_to.items };
 }
 
 // The greatest of these numbers of digits, and 0 of none.
@@ -59,9 +59,9 @@ impl<'a> Query<'a> {
         to: &'a Triang,
         rounds: u32,
     ) -> Result<Query<'a>, AllocError>
-        requires few { length from.entry.now.points ≤ 64 }
-        requires same { to.entry.now.points ≡ from.entry.now.points }
-        requires frame { IsFrame from.entry.now.points lists.entry.now }
+        requires few { length from.now.points ≤ 64 }
+        requires same { to.now.points ≡ from.now.points }
+        requires frame { IsFrame from.now.points lists.now }
         requires rounds { rounds ≤ 400_000 }
         ensures { IfOk result (λ q. q ≡ record { points = from.entry.now.points; frame = lists.entry.now; from = from.entry.now.edges; to = to.entry.now.edges; rounds = rounds }) }
     {
@@ -126,9 +126,19 @@ impl<'a> Query<'a> {
         ensures { result ≡ is_live_flip_in self.now t (pair_at self.now.frame.flips n) }
     {
         let (edge, image) = self.lists.flip(n);
-        self.is_live(t, edge)
-            && self.is_live(t + 1, image)
+        self.are_ends_live(t, edge, image)
             && self.are_sides_live(t, self.lists.segment(edge), self.lists.segment(image))
+    }
+
+    // Whether the segment with the number `edge` can be there before round `t`, and that with the number `image` after it.
+    fn are_ends_live(&self, t: u32, edge: u32, image: u32) -> bool
+        requires round { t < self.now.rounds }
+        requires edge { edge < length self.now.frame.segments }
+        requires image { image < length self.now.frame.segments }
+        ensures { result ≡ (live_in self.now t (edge_at self.now.frame.segments edge) && live_in self.now (t + 1) (edge_at self.now.frame.segments image)) }
+    {
+        let _ = &self.lists;
+        self.is_live(t, edge) && self.is_live(t + 1, image)
     }
 
     // Whether the segment of `a` and `b` can be there before round `t` and after it.
@@ -140,30 +150,38 @@ impl<'a> Query<'a> {
         match Edge::of(a, b) {
             Some(e) => {
                 let n = self.lists.number(e);
-                self.is_live(t, n) && self.is_live(t + 1, n)
+                self.are_ends_live(t, n, n)
             }
             None => unreachable!(),
         }
     }
 
-    // Whether the edges from each end of `e` to each end of `f` all can.
+    // Whether the segments from `a` to both ends of `f` can.
+    fn are_two_live(&self, t: u32, a: u32, f: Edge) -> bool
+        requires round { t < self.now.rounds }
+        requires low { Contains self.now.frame.segments (edge a f.0) }
+        requires high { Contains self.now.frame.segments (edge a f.1) }
+        ensures { result ≡ (stays_in self.now t (edge a f.0) && stays_in self.now t (edge a f.1)) }
+    {
+        self.is_side_live(t, a, f.low()) && self.is_side_live(t, a, f.high())
+    }
+
+    // Whether those from each end of `e` to each end of `f` can.
     fn are_four_live(&self, t: u32, e: Edge, f: Edge) -> bool
         requires round { t < self.now.rounds }
         requires segments { All (λ s. Contains self.now.frame.segments s) (four e f) }
         ensures { result ≡ list_all (stays_in self.now t) (four e f) }
     {
-        self.is_side_live(t, e.low(), f.low())
-            && self.is_side_live(t, e.low(), f.high())
-            && self.is_side_live(t, e.high(), f.low())
-            && self.is_side_live(t, e.high(), f.high())
+        self.are_two_live(t, e.low(), f) && self.are_two_live(t, e.high(), f)
     }
 
-    // Whether the four sides of the flip of `e` to `f` all can.
+    // Whether the four sides of the flip of `e` to `f` can.
     fn are_sides_live(&self, t: u32, e: Edge, f: Edge) -> bool
         requires round { t < self.now.rounds }
         requires flip { Contains self.now.frame.flips (pair_of e f) }
         ensures { result ≡ list_all (stays_in self.now t) (sides self.now.frame (pair_of e f)) }
     {
+        let _ = &self.lists;
         if e.low() < f.low() {
             self.are_four_live(t, e, f)
         } else {

@@ -3,25 +3,32 @@ ghost use Rattle.std.specs.Prelude.{◌≡◌, ◌<◌, ◌≤◌, ◌+◌, ◌*
 ghost use Rattle.std.specs.List.{range_with_len};
 ghost use Rattle.formula_parts.specs.Building.{pair_at};
 ghost use Rattle.pruned_cnf.specs.Queries.{clauses_in};
-ghost use Rattle.pruned_cnf.specs.Sizes.{crossing_count, flip_count, change_count, size_of_flip};
+ghost use Rattle.pruned_cnf.specs.Sizes.{crossing_count, flip_count, change_count, is_live_pair, size_of_flip};
 
 use crate::Query;
 
-// Those of the pairs that cross, in a layer.
+// Whether both segments of the pair with the number `m` can be there after `t` rounds.
+fn is_live_pair(query: &Query, t: u32, m: u32) -> bool
+    requires { m < length query.now.frame.crossings }
+    ensures { result ≡ is_live_pair query.now t (pair_at query.now.frame.crossings m) }
+{
+    let (a, b) = query.lists().crossing(m);
+    query.is_live(t, a) && query.is_live(t, b)
+}
+
+// Counts the clauses of the pairs that cross, in a layer.
 fn crossings_at(query: &Query, t: u32) -> u64
     ensures count { result ≡ crossing_count query.now t }
     ensures few { result ≤ 16_777_216 }
 {
-    let lists = query.lists();
     let mut count: u64 = 0;
-    for m in 0..lists.crossings() {
-        let (a, b) = lists.crossing(m);
-        count += u64::from(query.is_live(t, a) && query.is_live(t, b));
+    for m in 0..query.lists().crossings() {
+        count += u64::from(is_live_pair(query, t, m));
     }
     count
 }
 
-// Those of the flip with the number `n` in a round.
+// Counts the clauses of the flip with the number `n`, in a round.
 fn flip_at(query: &Query, t: u32, n: u32) -> u64
     requires round { t < query.now.rounds }
     requires within { n < length query.now.frame.flips }
@@ -36,7 +43,7 @@ fn flip_at(query: &Query, t: u32, n: u32) -> u64
     10 + u64::from(query.is_live(t + 1, edge)) + u64::from(query.is_live(t, image))
 }
 
-// Those of all flips in a round.
+// Counts the clauses of all flips, in a round.
 fn flips_at(query: &Query, t: u32) -> u64
     requires { t < query.now.rounds }
     ensures count { result ≡ flip_count query.now t }
@@ -49,7 +56,7 @@ fn flips_at(query: &Query, t: u32) -> u64
     count
 }
 
-// Those of the segments that leave or come in a round.
+// Counts the clauses of the segments that leave or come, in a round.
 fn changes_at(query: &Query, t: u32) -> u64
     requires { t < query.now.rounds }
     ensures count { result ≡ change_count query.now t }
@@ -62,7 +69,7 @@ fn changes_at(query: &Query, t: u32) -> u64
     count
 }
 
-// Those of the pairs that cross, in `n` layers from layer `t` on.
+// Counts the clauses of the pairs that cross, in `n` layers from layer `t` on.
 fn crossings_from(query: &Query, t: u32, n: u32) -> u64
     requires { t + n ≤ 400_001 }
     ensures count { result ≡ sum_by (crossing_count query.now) (range_with_len t n) }
@@ -75,7 +82,7 @@ fn crossings_from(query: &Query, t: u32, n: u32) -> u64
     count
 }
 
-// Those of `n` rounds from round `t` on.
+// Counts the clauses of `n` rounds from round `t` on.
 fn rounds_from(query: &Query, t: u32, n: u32) -> u64
     requires { t + n ≤ query.now.rounds }
     ensures count { result ≡ sum_by (flip_count query.now) (range_with_len t n) + sum_by (change_count query.now) (range_with_len t n) }
@@ -89,7 +96,7 @@ fn rounds_from(query: &Query, t: u32, n: u32) -> u64
     count
 }
 
-// Those of the pairs that cross, in all layers.
+// Counts the clauses of the pairs that cross, in all layers. Those between the first and the last ones have as many as there are pairs.
 fn crossings_in(query: &Query) -> u64
     ensures count { result ≡ sum_by (crossing_count query.now) (range_with_len 0 (query.now.rounds + 1)) }
     ensures few { result ≤ 400_001 * 16_777_216 }
@@ -106,7 +113,7 @@ fn crossings_in(query: &Query) -> u64
         + crossings_from(query, first + middle + 1, last)
 }
 
-// Those of all rounds.
+// Counts the clauses of all rounds. Those between the first and the last ones have twelve for each flip and two for each segment.
 fn rounds_in(query: &Query) -> u64
     ensures count { result ≡ sum_by (flip_count query.now) (range_with_len 0 query.now.rounds) + sum_by (change_count query.now) (range_with_len 0 query.now.rounds) }
     ensures few { result ≤ 400_000 * 201_334_784 }
@@ -128,6 +135,7 @@ fn rounds_in(query: &Query) -> u64
 pub fn size(query: &Query) -> u64
     ensures { result ≡ length (clauses_in query.now) }
 {
+    let _ = query.lists();
     let ends = query.from().len() as u64 + query.to().len() as u64;
     ends + crossings_in(query) + rounds_in(query)
 }
