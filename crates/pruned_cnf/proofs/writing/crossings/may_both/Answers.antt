@@ -1,4 +1,4 @@
-use Rattle.std.proofs.Common.{◌≡◌, ◌∙◌, ◌<◌, true, false, ◌&&◌, length, sym, ap, subst}
+use Rattle.std.proofs.Common.{◌≡◌, ◌∙◌, ◌<◌, ◌&&◌, length, sym, ap, subst}
 use Rattle.formula_law.specs.Frames.{Pair, Frame}
 use Rattle.formula_parts.specs.Building.{pair_at}
 use Rattle.formula_parts.specs.Lists.{edge_at, linked}
