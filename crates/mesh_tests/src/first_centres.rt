@@ -1,8 +1,8 @@
 // Points on circles with ample memory: which flips lead to the centre, with which images, and which input is past the budget.
-use lawson_start::*;
 use edge_table::{Edge, EdgeSeq, Rounds};
 use geo_orient::Point;
 use lawson_law::run_bound;
+use lawson_start::*;
 use std::alloc::{AllocError, Global};
 use std::process::Abort;
 use std::sync::Arc;
