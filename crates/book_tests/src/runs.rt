@@ -1,7 +1,6 @@
 // The turns and the end of small runs on one thread.
 ghost use Rattle.std.specs.Prelude.{◌≡◌, [], length, IfOk};
 
-use worker_pool::*;
 use book_core::Book;
 use flip_cnf::Frame;
 use geo_orient::Point;
@@ -11,6 +10,7 @@ use std::alloc::{AllocError, Global};
 use std::sync::Arc;
 use std::test::Fail;
 use tri_check::{Instance, PairList, PointList, RawInputs, RawInstance, RawPair, Uid, WeightList};
+use worker_pool::*;
 
 const SQUARE: [(i64, i64); 4] = [(0, 0), (2, 0), (2, 2), (0, 2)];
 

@@ -1,6 +1,6 @@
 // The turns of small runs.
-use worker_pool::*;
 use std::test::Fail;
+use worker_pool::*;
 
 // The job of a turn, where a run with so many improver turns and inputs has so many turns.
 fn job_of(turns: u32, inputs: u32, u: u64) -> Option<Job> {

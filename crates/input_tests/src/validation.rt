@@ -1,12 +1,12 @@
 // Small instances, valid ones and one for each kind of fault.
 ghost use Rattle.std.specs.Prelude.{◌≡◌, length, IfOk};
 
-use tri_check::*;
 use edge_table::Edge;
 use geo_orient::Point;
 use std::alloc::{AllocError, Global};
 use std::process::Abort;
 use std::test::Fail;
+use tri_check::*;
 
 fn point(x: i64, y: i64) -> Point {
     Point { x, y }

@@ -1,8 +1,8 @@
 // The square with ample memory: its diagonal flips there and back.
 ghost use Rattle.std.specs.Prelude.{◌≡◌, length, IfOk};
 
-use flip_mesh::*;
 use edge_table::Edge;
+use flip_mesh::*;
 use geo_orient::Point;
 use std::alloc::{AllocError, Global};
 use std::process::Abort;

@@ -1,7 +1,7 @@
 // The square with ample memory: its diagonal flips in one round, and that is where the other input is.
-use replay::*;
 use edge_table::{Edge, EdgeSeq, Rounds, RoundsList};
 use geo_orient::Point;
+use replay::*;
 use std::alloc::{AllocError, Global};
 use std::process::Abort;
 use std::sync::Arc;

@@ -2,10 +2,10 @@
 ghost use Rattle.std.specs.Prelude.{IsTrue, IfOk, ◌≡◌, length};
 ghost use Rattle.tri_theory.specs.Flips.{Flips};
 
-use round_pack::*;
 use edge_table::Edge;
 use flip_mesh::Mesh;
 use geo_orient::Point;
+use round_pack::*;
 use std::alloc::{AllocError, Global};
 use std::process::Abort;
 use std::test::Fail;

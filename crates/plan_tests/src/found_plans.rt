@@ -1,9 +1,9 @@
 // The octagon whose inputs are the fans at two neighbours: what is found with turns and without.
 ghost use Rattle.std.specs.Prelude.{◌≡◌, IfOk, length};
 
-use plan_solve::*;
 use geo_orient::Point;
 use lawson_start::StartFault;
+use plan_solve::*;
 use std::alloc::{AllocError, Global};
 use std::sync::Arc;
 use std::test::Fail;

@@ -1,9 +1,9 @@
 // Walks and descents with ample memory: on the square, and for the second fan of the octagon.
-use plan_moves::*;
-use crate::swaps::{corner_edge, four_rounds, octagon, opening, round};
 use crate::settling::{SQUARE, points_of, square};
+use crate::swaps::{corner_edge, four_rounds, octagon, opening, round};
 use edge_table::{EdgeSeq, Rounds};
 use plan_core::Plan;
+use plan_moves::*;
 use rand_core::Rng;
 use std::alloc::{AllocError, Global};
 use std::process::Abort;

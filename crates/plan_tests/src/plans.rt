@@ -1,10 +1,10 @@
 // The square with ample memory, with the diagonal 1-3 as its only input and 0-2 as the centre.
 ghost use Rattle.std.specs.Prelude.{◌≡◌, length, IfOk, OnOk};
 
-use plan_core::*;
 use edge_table::{Edge, EdgeSeq, Rounds};
 use flip_mesh::Mesh;
 use geo_orient::Point;
+use plan_core::*;
 use round_pack::{Track, TrackList};
 use std::alloc::{AllocError, Global};
 use std::process::Abort;

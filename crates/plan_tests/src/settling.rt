@@ -1,11 +1,11 @@
 // The square and a hexagon with ample memory, each with one input and a centre one round away from it.
 ghost use Rattle.std.specs.Prelude.{◌≡◌, length, IfOk, OnOk};
 
-use plan_moves::*;
 use edge_table::{Edge, EdgeSeq};
 use flip_mesh::Mesh;
 use geo_orient::Point;
 use plan_core::{MoveList, Plan};
+use plan_moves::*;
 use round_pack::{Track, TrackList};
 use std::alloc::{AllocError, Global};
 use std::process::Abort;

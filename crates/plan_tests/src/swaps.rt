@@ -1,9 +1,9 @@
 // Another list for an input of the octagon: the one in four rounds that its opening's five give way to.
-use plan_moves::*;
 use edge_table::{Edge, EdgeSeq, Rounds};
 use geo_orient::Point;
 use lawson_start::start;
 use plan_core::{Plan, SwapFault};
+use plan_moves::*;
 use std::alloc::{AllocError, Global};
 use std::process::Abort;
 use std::sync::Arc;

@@ -4,6 +4,8 @@
 #[cfg(test)]
 mod checking;
 #[cfg(test)]
+mod edited_certificates;
+#[cfg(test)]
 mod sizes;
 #[cfg(test)]
 mod solving;
