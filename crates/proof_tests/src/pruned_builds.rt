@@ -98,7 +98,7 @@ enum Found {
     Spent,
 }
 
-fn found(
+fn solved(
     rt: &impl Abort,
     alloc: Global,
     inst: &Instance,
@@ -142,11 +142,11 @@ fn are_flips(found: &Found, edges: &[Option<Edge>]) -> bool {
 #[test]
 fn rounds_of_a_square_are_found(rt: HostRuntime) -> Result<(), Fail> {
     let inst = polygon(rt.alloc(), &square())?.expect(&rt, "a square");
-    let none = found(&rt, rt.alloc(), &inst, 1, 0).expect(&rt, "a formula");
+    let none = solved(&rt, rt.alloc(), &inst, 1, 0).expect(&rt, "a formula");
     assert!(rt; is_refuted(&none));
-    let one = found(&rt, rt.alloc(), &inst, 1, 1).expect(&rt, "a formula");
+    let one = solved(&rt, rt.alloc(), &inst, 1, 1).expect(&rt, "a formula");
     assert!(rt; are_flips(&one, &[Edge::of(0, 2)]));
-    let two = found(&rt, rt.alloc(), &inst, 0, 2).expect(&rt, "a formula");
+    let two = solved(&rt, rt.alloc(), &inst, 0, 2).expect(&rt, "a formula");
     assert!(rt; matches!(two, Found::Met(_)));
     Ok(())
 }
@@ -154,9 +154,9 @@ fn rounds_of_a_square_are_found(rt: HostRuntime) -> Result<(), Fail> {
 #[test]
 fn rounds_of_a_pentagon_are_found(rt: HostRuntime) -> Result<(), Fail> {
     let inst = polygon(rt.alloc(), &pentagon())?.expect(&rt, "a pentagon");
-    let none = found(&rt, rt.alloc(), &inst, 1, 1).expect(&rt, "a formula");
+    let none = solved(&rt, rt.alloc(), &inst, 1, 1).expect(&rt, "a formula");
     assert!(rt; is_refuted(&none));
-    let two = found(&rt, rt.alloc(), &inst, 1, 2).expect(&rt, "a formula");
+    let two = solved(&rt, rt.alloc(), &inst, 1, 2).expect(&rt, "a formula");
     assert!(rt; are_flips(&two, &[Edge::of(0, 2), Edge::of(0, 3)]));
     Ok(())
 }
@@ -164,7 +164,7 @@ fn rounds_of_a_pentagon_are_found(rt: HostRuntime) -> Result<(), Fail> {
 #[test]
 fn two_rounds_of_a_hexagon_are_not_found(rt: HostRuntime) -> Result<(), Fail> {
     let inst = polygon(rt.alloc(), &hexagon())?.expect(&rt, "a hexagon");
-    let none = found(&rt, rt.alloc(), &inst, 1, 2).expect(&rt, "a formula");
+    let none = solved(&rt, rt.alloc(), &inst, 1, 2).expect(&rt, "a formula");
     assert!(rt; is_refuted(&none));
     Ok(())
 }

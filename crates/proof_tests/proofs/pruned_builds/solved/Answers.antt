@@ -3,7 +3,7 @@ use Rattle.bound_law.specs.Bounds.{input_at}
 use Rattle.log_law.specs.Clauses.{listed}
 use Rattle.sat_search.specs.Answers.{IsAnswer}
 use Rattle.pair_rows.proofs.Climbing.{models_satisfy}
-use Rattle.proof_tests.proofs.pruned_builds.found.Goals as goal
+use Rattle.proof_tests.proofs.pruned_builds.solved.Goals as goal
 
 pub decode2-requires-clause-model : goal.decode2-requires-clause-model
 decode2-requires-clause-model g c =
