@@ -31,6 +31,11 @@ pub enum Asked {
         solution: Name,
         certificate: Name,
     },
+    /// The edges of an instance's schedule at a time, as rounds done.
+    Trace {
+        instance: Name,
+        t: u64,
+    },
 }
 
 /// Why nothing was read.
