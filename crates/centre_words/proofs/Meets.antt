@@ -15,7 +15,7 @@ use Rattle.centre_words.specs.declared.asked.Asked.{Asked}
 use Rattle.centre_words.specs.declared.asked.Asked.TheVariants as asked
 use Rattle.centre_words.specs.Commands.{AsksBy, the_app}
 use Rattle.centre_words.specs.PlainWords.{is_bare, is_word}
-use Rattle.centre_words.specs.Table.{Number, Row, table, check_row, score_row, solve_row, verify_row, trace_row, round, turns, seed, flips}
+use Rattle.centre_words.specs.Table.{Number, Row, table, check_row, score_row, solve_row, verify_row, trace_row, input, turns, seed, flips}
 use Rattle.centre_words.specs.Words.{Asks, AsksSolve, IsChosen, IsNumberUpTo, IsPlain, IsPlainPiece, Piece, dashed, name, given, names_of, spelling, values_of}
 use Rattle.centre_words.proofs.Pieces.{Few, Fits, rows_for}
 use Rattle.centre_words.proofs.Rules.{at_all, has, options, places}
@@ -188,7 +188,7 @@ as_row row r words found at at_r same s =
     subst (λ q. Said q words found) is s
 
 -- a number that must be there has a word
-given_word : (o : Option Text) (t : ℕ) → IsChosen round (option_to_list o) (Some t) → (word : Text) × (o ≡ Some word) × IsNumberUpTo round.most word t
+given_word : (o : Option Text) (t : ℕ) → IsChosen input (option_to_list o) (Some t) → (word : Text) × (o ≡ Some word) × IsNumberUpTo input.most word t
 given_word None t h = cc
 given_word (Some word) t h = (word, refl, h)
 
@@ -215,7 +215,7 @@ asks_from row words found at s (asked.Verify i t c) h =
     let b = said_bare verify_row refl refl words found (as_row row verify_row words found at refl h.0 s) (i ∷ t ∷ c ∷ []) (λ j. h.1 j ∷ h.2 j ∷ h.3 j ∷ []) in
     (b.0, b.1.0, b.1.1.0, b.1.1.1.0)
 asks_from row words found at s (asked.Trace i t) h =
-    let w = given_word (first_of round.name found) t h.2 in
+    let w = given_word (first_of input.name found) t h.2 in
     let b = said_bare trace_row refl refl words found (as_row row trace_row words found at refl h.0 s) (i ∷ w.0 ∷ []) (λ j. h.1 j ∷ w.1 j ∷ []) in
     (w.0, b.0, b.1.0, w.2)
 
@@ -311,7 +311,7 @@ asks_by_once command found (asked.Verify i s c) (asked.Verify j t d) h k =
     λ l. asked.Verify (ei l) (es l) (ec l)
 asks_by_once command found (asked.Trace i t) (asked.Trace j u) h k =
     let ei = same_name _ i j h.1 k.1 in
-    let et = some_is t u (number_once round _ (Some t) (Some u) h.2 k.2) in
+    let et = some_is t u (number_once input _ (Some t) (Some u) h.2 k.2) in
     λ l. asked.Trace (ei l) (et l)
 asks_by_once command found a b h k = let clash : bytes_eq (command_of a) (command_of a) ≡ bytes_eq (command_of b) (command_of a) = ap (λ t. bytes_eq t (command_of a)) (sym h.0 ∙ k.0) in cc
 

@@ -36,8 +36,8 @@ seed = record { name = codes "seed"; most = 18446744073709551615; usual = Some 1
 abbrev pub flips : Number
 flips = record { name = codes "flips"; most = 1000000000; usual = None }
 
-abbrev pub round : Number
-round = record { name = codes "t"; most = 255; usual = None }
+abbrev pub input : Number
+input = record { name = codes "input"; most = 255; usual = None }
 
 abbrev pub check_row : Row
 check_row = record { name = codes "check"; items = file (codes "instance") ∷ [] }
@@ -55,7 +55,7 @@ abbrev pub verify_row : Row
 verify_row = record { name = codes "verify"; items = file (codes "instance") ∷ file (codes "solution") ∷ file (codes "certificate") ∷ [] }
 
 abbrev pub trace_row : Row
-trace_row = record { name = codes "trace"; items = file (codes "instance") ∷ count round ∷ [] }
+trace_row = record { name = codes "trace"; items = file (codes "instance") ∷ count input ∷ [] }
 
 abbrev pub table : List Row
 table = check_row ∷ score_row ∷ solve_row ∷ verify_row ∷ trace_row ∷ []

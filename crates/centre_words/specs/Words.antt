@@ -4,7 +4,7 @@ use Rattle.std.specs.List.{All, list_any}
 use Rattle.std.specs.Str.{bytes_eq}
 use Rattle.std.specs.Str.Parse.{IsNumeral, digits_value}
 use Rattle.std.specs.declared.alloc.Global.{Global}
-use Rattle.centre_words.specs.Table.{Number, turns, seed, flips, round, options_of, solve_row}
+use Rattle.centre_words.specs.Table.{Number, turns, seed, flips, input, options_of, solve_row}
 use Rattle.centre_words.specs.declared.asked.Asked.{Asked}
 use Rattle.centre_words.specs.declared.asked.Asked.TheVariants as asked
 
@@ -82,7 +82,7 @@ Asks words (asked.Solve instance solution n_turns n_seed n_flips) = AsksSolve wo
 Asks words (asked.Verify instance solution certificate) =
     (words ≡ codes "verify" ∷ instance ∷ solution ∷ certificate ∷ []) × IsPlain instance × IsPlain solution × IsPlain certificate
 Asks words (asked.Trace instance t) =
-    (word : List ℕ) × (words ≡ codes "trace" ∷ instance ∷ word ∷ []) × IsPlain instance × IsNumberUpTo round.most word t
+    (word : List ℕ) × (words ≡ codes "trace" ∷ instance ∷ word ∷ []) × IsPlain instance × IsNumberUpTo input.most word t
 
 -- the words are those of no command
 abbrev pub IsUnasked : List (List ℕ) → Type 0

@@ -31,7 +31,7 @@ pub enum Asked {
         solution: Name,
         certificate: Name,
     },
-    /// The edges of an instance's schedule at a time, as rounds done.
+    /// How many flips the run of an instance's input has; the input is named by its place.
     Trace {
         instance: Name,
         t: u64,

@@ -46,9 +46,9 @@ pub const FLIPS: Number = Number {
     usual: None,
 };
 
-// The number of a round in a schedule.
-pub const ROUND: Number = Number {
-    name: "t",
+// The place of an input of an instance.
+pub const INPUT: Number = Number {
+    name: "input",
     most: 255,
     usual: None,
 };
@@ -82,7 +82,7 @@ static ROWS: [Row; 5] = [
     },
     Row {
         name: "trace",
-        items: &[Item::File("instance"), Item::Count(ROUND)],
+        items: &[Item::File("instance"), Item::Count(INPUT)],
     },
 ];
 

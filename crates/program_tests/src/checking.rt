@@ -2,10 +2,9 @@
 ghost use Rattle.std.specs.Prelude.{◌≡◌, length, IfOk};
 
 use centre_run::*;
-use std::alloc::Global;
 use geo_orient::Point;
 use host_io::{MemSink, MemStore};
-use std::alloc::AllocError;
+use std::alloc::{AllocError, Global};
 use std::test::Fail;
 use tri_check::{
     Bad, CheckFault, Instance, PairList, PointList, RawInputs, RawInstance, RawPair, Uid,

@@ -1,7 +1,7 @@
 // Larger instances: with ample memory no command ends for want of it.
 use centre_run::*;
-use std::alloc::Global;
 use host_io::{MemSink, MemStore};
+use std::alloc::Global;
 use std::test::Fail;
 
 // Fifty points, and five triangulations of them.

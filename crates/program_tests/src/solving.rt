@@ -1,7 +1,7 @@
 // Runs of `solve` over stores and sinks in memory: each row an instance, the words, and what is printed and written.
 use centre_run::*;
-use std::alloc::Global;
 use host_io::{MemSink, MemStore};
+use std::alloc::Global;
 use std::test::Fail;
 
 const SQUARE: &str =

@@ -1,7 +1,7 @@
 // Runs over instances with weights: each row the weights of the square's two inputs, the words, and the line.
 use centre_run::*;
-use std::alloc::Global;
 use host_io::{MemSink, MemStore};
+use std::alloc::Global;
 use std::test::Fail;
 
 // The square with its two diagonals as inputs, and these weights.

@@ -150,7 +150,7 @@ fn verify_has_three_names(rt: HostRuntime) -> Result<(), Fail> {
 }
 
 #[test]
-fn trace_has_a_name_and_a_time(rt: HostRuntime) -> Result<(), Fail> {
+fn trace_has_a_name_and_a_place(rt: HostRuntime) -> Result<(), Fail> {
     let alloc = rt.alloc();
     let rows = [
         ("trace q.json 0", 0),
