@@ -4,7 +4,7 @@ use Rattle.host_io.specs.Store.{Held, one_more}
 use Rattle.centre_run.specs.declared.status.Status.{Status}
 use Rattle.centre_run.specs.declared.status.Status.TheVariants.{Done, Words, Refused, FlipBudget, Memory, ReadFault, WriteFault, No}
 use Rattle.centre_words.specs.declared.asked.Asked.{Asked}
-use Rattle.centre_words.specs.declared.asked.Asked.TheVariants.{Check, Score, Solve, Verify}
+use Rattle.centre_words.specs.declared.asked.Asked.TheVariants.{Check, Score, Solve, Verify, Trace}
 use Rattle.centre_words.specs.Words.{Asks}
 use Rattle.centre_words.proofs.Meets.{words_ask_once}
 use Rattle.centre_run.specs.declared.solving.SolveOptions.{SolveOptions}
@@ -13,7 +13,7 @@ use Rattle.solution_json.specs.declared.solution.Solution.{Solution}
 use Rattle.tri_check.specs.Problems.{Problem}
 use Rattle.centre_run.specs.Orders.{order_of}
 use Rattle.cert_text.specs.declared.cert.Cert.{Cert}
-use Rattle.centre_run.specs.Runs.{ScoreSays, SolveSays, VerifySays, OrderSays, SolutionSays, CertificateSays, CommandDoes}
+use Rattle.centre_run.specs.Runs.{ScoreSays, SolveSays, VerifySays, RunSays, OrderSays, SolutionSays, CertificateSays, CommandDoes}
 use Rattle.centre_run.specs.Calls.{after_calling, after_writing, CallsFor, CommandCalls}
 
 -- what holds of the command that words ask for holds of any
@@ -81,6 +81,20 @@ verify_calls bytes others last first second third status line before now (inl (r
     subst (λ s. CallsFor (Verify first second third) s before now) (sym refused) is
 verify_calls bytes others last first second third status line before now (inr (instance, solution, cert, spells, lists, text, says)) is =
     certified_calls instance solution cert (Verify first second third) status line before now says is is
+
+run_calls : (instance : Problem) (t : ℕ) (c : Asked) (status : Status) (line : List ℕ) (before now : ℕ) → RunSays instance t status line → CallsFor c Done before now → CallsFor c Refused before now → CallsFor c status before now
+run_calls instance t c Done line before now says done refused = done
+run_calls instance t c Refused line before now says done refused = refused
+run_calls instance t c Words line before now says done refused = absurd says
+run_calls instance t c FlipBudget line before now says done refused = absurd says
+run_calls instance t c Memory line before now says done refused = absurd says
+run_calls instance t c ReadFault line before now says done refused = absurd says
+run_calls instance t c WriteFault line before now says done refused = absurd says
+run_calls instance t c No line before now says done refused = absurd says
+
+pub trace_calls : (old new : Option Held) (name : List ℕ) (t : ℕ) (status : Status) (line : List ℕ) (before now : ℕ) → CommandDoes old new (Trace name t) status line → now ≡ one_more before → CallsFor (Trace name t) status before now
+trace_calls old new name t status line before now (files, (bytes, held, inl (refused, names), none), written) is = subst (λ s. CallsFor (Trace name t) s before now) (sym refused) is
+trace_calls old new name t status line before now (files, (bytes, held, inr (instance, spells, says), none), written) is = run_calls instance t (Trace name t) status line before now says is is
 
 -- a command that says a status ends with it
 pub said_calls : (held : Option Held) (Failed : Type 0) (c : Asked) (status : Status) (before now : ℕ) → CallsFor c status before now → CommandCalls held Failed c status before now

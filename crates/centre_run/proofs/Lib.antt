@@ -1,3 +1,4 @@
+mod Budgets
 mod Calling
 mod Once
 mod Found

@@ -1,6 +1,8 @@
 -- The words and the files that a store tells call for one status.
-use Rattle.std.proofs.Common.{◌≡◌, ◌⊎◌, inl, inr, ◌∙◌, sym, ap, ap₂, refl, subst, ℕ, ◌≤◌, ◌+◌, unsigned_abs, List, [], ◌∷◌, drop, slice_index_or, Option, Some, None}
+use Rattle.std.proofs.Common.{◌≡◌, ◌⊎◌, inl, inr, ◌∙◌, sym, ap, ap₂, refl, subst, ℕ, ◌<◌, ◌≤◌, ◌+◌, unsigned_abs, List, [], ◌∷◌, length, drop, slice_index_or, Option, Some, None}
 use Rattle.std.specs.FinMap as map
+use Rattle.std.proofs.Math.Nat.{not-le_of_lt}
+use Rattle.std.proofs.lemmas.Option.{slice_get_within}
 use Rattle.host_io.specs.Store.{Held, Rose}
 use Rattle.edge_table.specs.declared.edge.Edge.{Edge}
 use Rattle.edge_table.proofs.Ascending.{same_members}
@@ -23,7 +25,7 @@ use Rattle.tri_theory.specs.Inputs.{IsCompleted}
 use Rattle.centre_run.specs.declared.status.Status.{Status}
 use Rattle.centre_run.specs.declared.status.Status.TheVariants.{Done, Words, Refused, FlipBudget, Memory, ReadFault, WriteFault, No}
 use Rattle.centre_words.specs.declared.asked.Asked.{Asked}
-use Rattle.centre_words.specs.declared.asked.Asked.TheVariants.{Check, Score, Solve, Verify}
+use Rattle.centre_words.specs.declared.asked.Asked.TheVariants.{Check, Score, Solve, Verify, Trace}
 use Rattle.centre_words.specs.Words.{Asks}
 use Rattle.centre_words.proofs.Meets.{words_ask_once}
 use Rattle.cert_text.specs.declared.cert.Cert.{Cert}
@@ -36,7 +38,7 @@ use Rattle.verify_core.proofs.Clear.{shown_clear}
 use Rattle.plan_solve.specs.declared.order.Order.{Order}
 use Rattle.centre_run.specs.declared.solving.SolveOptions.{SolveOptions}
 use Rattle.centre_run.specs.Orders.{order_of}
-use Rattle.centre_run.specs.Runs.{SpellsValid, NamesInstanceFault, SpellsInstance, SpellsSolution, IsSolved, NamesScoreFault, NamesFileFault, NamesVerifyFault, SolutionSays, CertificateSays, CheckSays, ScoreSays, OrderSays, SolveSays, VerifySays, Files, CommandSays, LacksFile, files_of, Says, HasReadCause}
+use Rattle.centre_run.specs.Runs.{SpellsValid, NamesInstanceFault, SpellsInstance, SpellsSolution, IsSolved, NamesScoreFault, NamesFileFault, NamesVerifyFault, SolutionSays, CertificateSays, CheckSays, ScoreSays, OrderSays, SolveSays, VerifySays, RunSays, TraceSays, Files, CommandSays, LacksFile, files_of, Says, HasReadCause}
 
 -- the bound on calls is that of the command that was asked for
 pub calls_once : (words : List (List ℕ)) (c : Asked) (before now : ℕ) → Asks words c → now ≤ before + files_of c → (d : Asked) → Asks words d → now ≤ before + files_of d
@@ -208,6 +210,25 @@ module _ (bytes others last : List ℕ) where
       one_of_two s t Done No (IsShown i x c) (HasNo i x c) (IsShown i x c) (HasNo i x c)
       (shown_has_none i x c a.problem) (shown_has_none i x c a.problem) (certificate_kind i x c s k says) (certificate_kind i x c t l other)
 
+run_kind : (i : Problem) (n : ℕ) (s : Status) (k : List ℕ) → RunSays i n s k → ((s ≡ Done) × (n < length i.inputs)) ⊎ ((s ≡ Refused) × (length i.inputs ≤ n))
+run_kind i n Done k (flips, run, told) = inl (refl, slice_get_within i.inputs n run.input run.there)
+run_kind i n Refused k (past, told) = inr (refl, past)
+run_kind i n Words k a = absurd a
+run_kind i n FlipBudget k a = absurd a
+run_kind i n Memory k a = absurd a
+run_kind i n ReadFault k a = absurd a
+run_kind i n WriteFault k a = absurd a
+run_kind i n No k a = absurd a
+
+module _ (bytes : List ℕ) (n : ℕ) where
+  trace_once : (s t : Status) (k l : List ℕ) → TraceSays bytes n s k → TraceSays bytes n t l → s ≡ t
+  trace_once s t k l (inl (d, p)) (inl (e, q)) = d ∙ sym e
+  trace_once s t k l (inl (d, p)) (inr (i, a, says)) = absurd (valid_faultless bytes a.raw k a.valid p)
+  trace_once s t k l (inr (i, a, says)) (inl (e, q)) = absurd (valid_faultless bytes a.raw l a.valid q)
+  trace_once s t k l (inr (i, a, says)) (inr (j, c, told)) =
+      one_of_two s t Done Refused (n < length i.inputs) (length i.inputs ≤ n) (n < length i.inputs) (length i.inputs ≤ n)
+      (λ p q. not-le_of_lt p q) (λ p q. not-le_of_lt p q) (run_kind i n s k says) (run_kind i n t l (subst (λ p. RunSays p n t l) (sym (instance_once bytes i j a c)) told))
+
 module _ (held : Held) where
   -- one name holds one file
   same_file : (P : List ℕ → Type 0) (name bytes others : List ℕ) → map.get held name ≡ Some bytes → map.get held name ≡ Some others → P others → P bytes
@@ -227,6 +248,8 @@ module _ (held : Held) where
       (same_file (λ b. VerifySays b others last t l) first bytes bs there with_first
       (same_file (λ o. VerifySays bs o last t l) second others os here with_second
       (same_file (λ e. VerifySays bs os e t l) third last ls along with_third told)))
+  command_once (Trace name n) s t k l f g (bytes, there, says, none) (others, here, told, empty) =
+      trace_once bytes n s t k l says (same_file (λ b. TraceSays b n t l) name bytes others there here told)
 
   command_reads : (c : Asked) (s : Status) (k : List ℕ) (f : Files) → CommandSays (Some held) c s k f → LacksFile (Some held) c → ⊥
   command_reads (Check name) s k f (bytes, there, says, none) lacks = held_there held name bytes there lacks
@@ -236,6 +259,7 @@ module _ (held : Held) where
   command_reads (Verify first second third) s k f (bytes, others, last, there, here, along, says, none) (inl lacks) = held_there held first bytes there lacks
   command_reads (Verify first second third) s k f (bytes, others, last, there, here, along, says, none) (inr (inl lacks)) = held_there held second others here lacks
   command_reads (Verify first second third) s k f (bytes, others, last, there, here, along, says, none) (inr (inr lacks)) = held_there held third last along lacks
+  command_reads (Trace name n) s k f (bytes, there, says, none) lacks = held_there held name bytes there lacks
 
 module _ (words : List (List ℕ)) (held : Held) where
   pub says_once : (s t : Status) (k l : List ℕ) (f g : Files) → Says words (Some held) s k f → Says words (Some held) t l g → s ≡ t

@@ -21,11 +21,11 @@ use Rattle.host_io.specs.declared.fail.StoreFail.TheVariants.{Failed}
 use Rattle.host_io.specs.Sink.{Takes}
 use Rattle.host_io.specs.declared.fail.SinkFail.{SinkFail}
 use Rattle.centre_words.specs.declared.asked.Asked.{Asked}
-use Rattle.centre_words.specs.declared.asked.Asked.TheVariants.{Check, Score, Solve, Verify}
+use Rattle.centre_words.specs.declared.asked.Asked.TheVariants.{Check, Score, Solve, Verify, Trace}
 use Rattle.centre_words.specs.Words.{Asks, IsUnasked}
 use Rattle.centre_run.specs.declared.solving.SolveOptions.{SolveOptions}
 use Rattle.centre_run.specs.Lines.{valid_line, words_line}
-use Rattle.centre_run.specs.Runs.{MayHold, CheckSays, ScoreSays, SolveSays, VerifySays, AsksToVerify, Files, file_under, CommandSays, CommandDoes, CommandBreaksOff, Says, AreWritten, HasWritten, AreCutOff, HasBrokenOff, Does, BreaksOff, LeavesName, KeepsOthers, IsTold, IsCutOff, TellsPart}
+use Rattle.centre_run.specs.Runs.{MayHold, CheckSays, ScoreSays, SolveSays, VerifySays, TraceSays, AsksToVerify, Files, file_under, CommandSays, CommandDoes, CommandBreaksOff, Says, AreWritten, HasWritten, AreCutOff, HasBrokenOff, Does, BreaksOff, LeavesName, KeepsOthers, IsTold, IsCutOff, TellsPart}
 
 pub accepted_says : (bytes : List ℕ) (raw : RawInstance) (problem : Problem) (status : Status) (line : List ℕ) → HasForm bytes → Spells bytes raw
     → IsAccepted raw.uid raw.points raw.inputs raw.weights problem → status ≡ Done → line ≡ valid_line (length problem.points) (length problem.inputs)
@@ -59,6 +59,9 @@ pub verify_does : (old new : Option Held) (first second third bytes others last 
 verify_does old new first second third bytes others last status line held here there same says =
     ([], (bytes, others, last, held, here, there, says, refl), nothing_written old new same)
 
+pub trace_does : (old new : Option Held) (name bytes : List ℕ) (t : ℕ) (status : Status) (line : List ℕ) → MayHold old name bytes → new ≡ old → TraceSays bytes t status line → CommandDoes old new (Trace name t) status line
+trace_does old new name bytes t status line held same says = ([], (bytes, held, says, refl), nothing_written old new same)
+
 -- the words ask for the texts of the names that were read
 pub verify_asked : (words : List (List ℕ)) (i s c first second third : List ℕ) → first ≡ i → second ≡ s → third ≡ c → Asks words (Verify i s c) → Asks words (Verify first second third)
 verify_asked words i s c first second third a b d asks =
@@ -72,6 +75,8 @@ no_asked words held (Score i s) line files asks (bytes, others, there, here, inr
 no_asked words held (Solve i target turns seed flips) line files asks (bytes, text, there, inl (refused, names, none), is) = cc
 no_asked words held (Solve i target turns seed flips) line files asks (bytes, text, there, inr (instance, spells, says), is) = absurd says
 no_asked words held (Verify i s c) line files asks says = (i, s, c, asks)
+no_asked words held (Trace i t) line files asks (bytes, there, inl (refused, names), none) = cc
+no_asked words held (Trace i t) line files asks (bytes, there, inr (instance, spells, says), none) = absurd says
 
 pub no_by_verify : (words : List (List ℕ)) (old new : Option Held) (line : List ℕ) → Does words old new No line → AsksToVerify words
 no_by_verify words old new line (files, inl (unasked, is, told, none), written) = cc
@@ -151,6 +156,7 @@ module _ (name : List ℕ) where
   command_others words held (Solve i target turns seed flips) status line files leaves asks (bytes, text, there, says, is) =
       subst AreOthers (sym is) (target_file target text (λ same. leaves (Solve i target turns seed flips) asks (0, omega arith, sym same)))
   command_others words held (Verify i s c) status line files leaves asks (bytes, others, last, there, here, with_third, says, none) = no_file files none
+  command_others words held (Trace i t) status line files leaves asks (bytes, there, says, none) = no_file files none
 
   others_said : (words : List (List ℕ)) (held : Option Held) (status : Status) (line : List ℕ) (files : Files) → LeavesName words name → Says words held status line files → AreOthers files
   others_said words held status line files leaves (inl (unasked, is, told, none)) = no_file files none

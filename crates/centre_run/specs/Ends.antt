@@ -4,7 +4,7 @@ use Rattle.host_io.specs.Store.{Held, Rose}
 use Rattle.centre_run.specs.declared.status.Status.{Status}
 use Rattle.centre_run.specs.declared.status.Status.TheVariants.{Done, Words, Refused, FlipBudget, Memory, ReadFault, WriteFault, No}
 use Rattle.centre_words.specs.Words.{IsUnasked}
-use Rattle.centre_run.specs.Runs.{KeepsOthers, IsReadOnly, HasReadCause, CallsOnce, IsFaultless, Completes, Tells, TellsPart, AsksToVerify}
+use Rattle.centre_run.specs.Runs.{KeepsOthers, IsReadOnly, HasReadCause, CallsOnce, IsFaultless, Completes, Tells, TellsPart, AsksToVerify, AllowsFewFlips}
 use Rattle.centre_run.specs.Calls.{CallsInOrder}
 
 -- what is known of a store at one time
@@ -25,6 +25,7 @@ pub record IsEnd (words : List (List ℕ)) (old new : StoreSeen) (before now : S
   pub words_refused : status ≡ Words → Tells words old.held new.held Words before.told now.told
   pub refused : status ≡ Refused → Tells words old.held new.held Refused before.told now.told
   pub budget : status ≡ FlipBudget → Tells words old.held new.held FlipBudget before.told now.told
+  pub budget_is_short : status ≡ FlipBudget → AllowsFewFlips words old.held
   pub no : status ≡ No → Tells words old.held new.held No before.told now.told
   pub no_by_verify : status ≡ No → AsksToVerify words
   pub memory : status ≡ Memory → (now.told ≡ before.told) × (new.held ≡ old.held)

@@ -71,6 +71,16 @@ form_words (WeightCount w m) = codes "WeightCount" ∷ decimal w ∷ decimal m �
 abbrev pub form_line : Form → List ℕ
 form_line form = line (instance_refused (form_words form))
 
+-- ---- runs
+
+-- the number of flips of a run, and a number that no run has more flips than
+abbrev pub flips_line : ℕ → ℕ → List ℕ
+flips_line flips bound = line (codes "flips" ∷ decimal flips ∷ codes "bound" ∷ decimal bound ∷ [])
+
+-- the instance has no input with this place
+abbrev pub no_such_input_line : ℕ → List ℕ
+no_such_input_line t = line (instance_refused (codes "NoSuchInput" ∷ decimal t ∷ []))
+
 -- ---- scores
 
 abbrev pub total_line : ℕ → List ℕ

@@ -24,9 +24,9 @@ use Rattle.replay.specs.Scores.{IsScoreFault, AreAllDistinct}
 use Rattle.centre_run.specs.declared.status.Status.{Status}
 use Rattle.centre_run.specs.declared.status.Status.TheVariants.{Done, Words, Refused, FlipBudget, Memory, ReadFault, No}
 use Rattle.centre_words.specs.declared.asked.Asked.{Asked}
-use Rattle.centre_words.specs.declared.asked.Asked.TheVariants.{Check, Score, Solve, Verify}
+use Rattle.centre_words.specs.declared.asked.Asked.TheVariants.{Check, Score, Solve, Verify, Trace}
 use Rattle.centre_words.specs.Words.{Asks, IsUnasked}
-use Rattle.centre_run.specs.Lines.{words_line, valid_line, bad_line, form_line, total_line, solution_form_line, other_uid_line, score_fault_line, solved_line, budget_line}
+use Rattle.centre_run.specs.Lines.{words_line, valid_line, bad_line, form_line, total_line, solution_form_line, other_uid_line, score_fault_line, solved_line, budget_line, flips_line, no_such_input_line}
 use Rattle.centre_run.specs.VerifyLines.{cert_form_line, yes_line, no_line}
 use Rattle.line_text.specs.declared.fault.TextFault.{TextFault}
 use Rattle.cert_text.specs.declared.cert.Cert.{Cert}
@@ -34,12 +34,12 @@ use Rattle.cert_text.specs.Forms as cert_form
 use Rattle.verify_core.specs.declared.fault.No as no
 use Rattle.verify_core.specs.declared.fault.VerifyFault.TheVariants as verify
 use Rattle.verify_core.specs.Faults.{IsShown, OnNo}
-use Rattle.lawson_start.specs.Starts.{IsOverBudget}
+use Rattle.lawson_start.specs.Starts.{IsOverBudget, IsWholeRun}
 use Rattle.plan_law.specs.Plans.{Plan, schedules}
 use Rattle.plan_solve.specs.declared.order.Order.{Order}
 use Rattle.plan_solve.specs.Solves.{IsFoundPlan}
 use Rattle.centre_run.specs.declared.solving.SolveOptions.{SolveOptions}
-use Rattle.centre_run.specs.Orders.{order_of}
+use Rattle.centre_run.specs.Orders.{pairs_of, order_of}
 
 -- ---- the files
 
@@ -176,6 +176,18 @@ VerifySays bytes others last status line =
     ((status ≡ Refused) × NamesVerifyFault bytes others last line)
     ⊎ ((instance : Problem) × (solution : Solution) × (cert : Cert) × SpellsInstance bytes instance × SpellsSolution others solution × cert_form.Spells last cert × CertificateSays instance solution cert status line)
 
+-- what `trace` says of an instance: the number of flips of the whole run of the input with the place t, and the number of pairs of points, which no run has more flips than; or that there is no such input
+abbrev pub RunSays : Problem → ℕ → Status → List ℕ → Type 0
+RunSays instance t Done line = (flips : List Edge) × IsWholeRun instance.points instance.inputs t flips × (line ≡ flips_line (length flips) (pairs_of (length instance.points)))
+RunSays instance t Refused line = (length instance.inputs ≤ t) × (line ≡ no_such_input_line t)
+RunSays instance t _ line = ⊥
+
+-- what `trace` says of the bytes of a file: their first fault, or what it says of the instance that they spell
+abbrev pub TraceSays : List ℕ → ℕ → Status → List ℕ → Type 0
+TraceSays bytes t status line =
+    ((status ≡ Refused) × NamesInstanceFault bytes line)
+    ⊎ ((instance : Problem) × SpellsInstance bytes instance × RunSays instance t status line)
+
 -- files that are written: their names and their bytes
 abbrev pub Files : Type 0
 Files = List (List ℕ × List ℕ)
@@ -194,6 +206,7 @@ CommandSays held (Solve instance solution turns seed flips) status line files =
     (bytes : List ℕ) × (text : Option (List ℕ)) × MayHold held instance bytes × SolveSays bytes (record { turns = turns; seed = seed; flips = flips }) status line text × (files ≡ file_under solution text)
 CommandSays held (Verify instance solution certificate) status line files =
     (bytes : List ℕ) × (others : List ℕ) × (last : List ℕ) × MayHold held instance bytes × MayHold held solution others × MayHold held certificate last × VerifySays bytes others last status line × (files ≡ [])
+CommandSays held (Trace instance t) status line files = (bytes : List ℕ) × MayHold held instance bytes × TraceSays bytes t status line × (files ≡ [])
 
 -- a file that the command reads isn't held
 abbrev pub LacksFile : Option Held → Asked → Type 0
@@ -201,6 +214,7 @@ LacksFile held (Check instance) = IsUnheld held instance
 LacksFile held (Score instance solution) = IsUnheld held instance ⊎ IsUnheld held solution
 LacksFile held (Solve instance solution turns seed flips) = IsUnheld held instance
 LacksFile held (Verify instance solution certificate) = IsUnheld held instance ⊎ (IsUnheld held solution ⊎ IsUnheld held certificate)
+LacksFile held (Trace instance t) = IsUnheld held instance
 
 -- how many files the command reads or writes
 abbrev pub files_of : Asked → ℕ
@@ -208,6 +222,7 @@ files_of (Check instance) = 1
 files_of (Score instance solution) = 2
 files_of (Solve instance solution turns seed flips) = 2
 files_of (Verify instance solution certificate) = 3
+files_of (Trace instance t) = 1
 
 -- the names under which the command writes
 abbrev pub written_by : Asked → List (List ℕ)
@@ -215,10 +230,17 @@ written_by (Check instance) = []
 written_by (Score instance solution) = []
 written_by (Solve instance solution turns seed flips) = solution ∷ []
 written_by (Verify instance solution certificate) = []
+written_by (Trace instance t) = []
 
 -- the words ask to verify a certificate
 abbrev pub AsksToVerify : List (List ℕ) → Type 0
 AsksToVerify words = (instance : List ℕ) × (solution : List ℕ) × (certificate : List ℕ) × Asks words (Verify instance solution certificate)
+
+-- the words ask for a solution with a number of flips that is given, and that is less than the pairs of points of the instance that the bytes under the name spell
+abbrev pub AllowsFewFlips : List (List ℕ) → Option Held → Type 0
+AllowsFewFlips words held =
+    (instance : List ℕ) × (solution : List ℕ) × (turns : ℕ) × (seed : ℕ) × (flips : ℕ) × (bytes : List ℕ) × (problem : Problem)
+    × Asks words (Solve instance solution turns seed (Some flips)) × MayHold held instance bytes × SpellsInstance bytes problem × (flips < pairs_of (length problem.points))
 
 -- what a run says, and the files that it writes: the status and the line that the words and the files call for. Memory and writes that fail aren't theirs to say
 abbrev pub Says : List (List ℕ) → Option Held → Status → List ℕ → Files → Type 0

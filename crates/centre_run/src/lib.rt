@@ -12,6 +12,7 @@ mod solution_lines;
 mod solving;
 mod status;
 mod threads;
+mod tracing;
 mod verify_lines;
 mod verifying;
 

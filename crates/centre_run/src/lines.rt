@@ -1,6 +1,6 @@
 // The lines that the program prints.
 ghost use Rattle.std.specs.Prelude.{◌≡◌, [], ◌∷◌, decimal, IfOk, string_bytes};
-ghost use Rattle.centre_run.specs.Lines.{line, instance_refused, valid_line, words_line, bad_line, form_line};
+ghost use Rattle.centre_run.specs.Lines.{line, instance_refused, valid_line, words_line, bad_line, form_line, flips_line, no_such_input_line};
 
 use edge_table::Edge;
 use instance_json::Form;
@@ -17,6 +17,20 @@ pub fn valid_text(alloc: Global, points: u32, inputs: u32) -> Result<String, All
     ensures { IfOk result (λ s. string_bytes s ≡ valid_line points inputs) }
 {
     format!(in alloc; "valid points {points} inputs {inputs}\n")
+}
+
+/// The number of flips of a run, and a number that no run has more flips than.
+pub fn flips_text(alloc: Global, flips: u64, bound: u64) -> Result<String, AllocError>
+    ensures { IfOk result (λ s. string_bytes s ≡ flips_line flips bound) }
+{
+    format!(in alloc; "flips {flips} bound {bound}\n")
+}
+
+/// The place of an input that an instance doesn't have.
+pub fn no_such_input_text(alloc: Global, t: u64) -> Result<String, AllocError>
+    ensures { IfOk result (λ s. string_bytes s ≡ no_such_input_line t) }
+{
+    format!(in alloc; "refused instance NoSuchInput {t}\n")
 }
 
 pub fn bad_text(alloc: Global, bad: Bad) -> Result<String, AllocError>

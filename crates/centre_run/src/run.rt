@@ -5,7 +5,7 @@ ghost use Rattle.centre_run.specs.Lines.{words_line};
 ghost use Rattle.centre_words.specs.Words.{texts, Asks, IsUnasked};
 ghost use Rattle.centre_words.specs.declared.asked.Asked.{Asked};
 ghost use Rattle.centre_run.specs.Calls.{CallsFor, CallsInOrder};
-ghost use Rattle.centre_run.specs.Runs.{Does, BreaksOff, KeepsOthers, IsReadOnly, HasReadCause, CallsOnce, IsFaultless, Completes, Tells, TellsPart, AsksToVerify};
+ghost use Rattle.centre_run.specs.Runs.{Does, BreaksOff, KeepsOthers, IsReadOnly, HasReadCause, CallsOnce, IsFaultless, Completes, Tells, TellsPart, AsksToVerify, AllowsFewFlips};
 
 use crate::checking::check_file;
 use crate::lines::words_text;
@@ -13,6 +13,7 @@ use crate::reply::{Quiet, Reply, with_line};
 use crate::scoring::score_files;
 use crate::solving::{SolveOptions, solve_file};
 use crate::status::Status;
+use crate::tracing::trace_file;
 use crate::verifying::verify_files;
 use centre_words::{Asked, WordsFault, read_words};
 use host_io::{Sink, Store, put_all};
@@ -77,6 +78,7 @@ fn reply_to<S: Store>(alloc: Global, words: &[String], store: &mut S) -> Result<
             solution.text(),
             certificate.text(),
         ),
+        Ok(Asked::Trace { instance, t }) => trace_file(alloc, store, instance.text(), t),
         Err(WordsFault::Words) => words_reply(alloc),
         Err(WordsFault::OutOfMemory) => Err(Quiet::Memory),
     }
@@ -103,6 +105,8 @@ pub fn run_plain<S: Store, O: Sink>(
     // 3: the run of an input is longer than the budget, and the line that names the first one was put.
     ensures budget { result ≡ Status.FlipBudget
         → Tells (texts words.now) (S.held store.old) (S.held store.new) Status.FlipBudget (O.told out.old) (O.told out.new) }
+    // So it comes only where a number of flips is given that is less than the pairs of points, never with the usual number.
+    ensures budget_is_short { result ≡ Status.FlipBudget → AllowsFewFlips (texts words.now) (S.held store.old) }
     // 7: a certificate doesn't show what it says, and the line that names its first fault was put. Only `verify` ends so.
     ensures no { result ≡ Status.No
         → Tells (texts words.now) (S.held store.old) (S.held store.new) Status.No (O.told out.old) (O.told out.new) }

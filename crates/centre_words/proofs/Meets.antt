@@ -2,7 +2,9 @@
 use Rattle.std.proofs.Common.{◌≡◌, ◌∙◌, ◌≤◌, ◌<◌, ◌&&◌, ◌||◌, ◌==◌, not, ne_eqb, ℕ, Bool, true, false, cond, sym, ap, ap₂, refl, subst, List, [], ◌∷◌, Option, Some, None, codes, map, option_map, length, nat_lt, arith, ltb-true}
 use Rattle.std.specs.List.{All, list_all}
 use Rattle.std.specs.Option.{option_to_list}
+use Rattle.std.specs.Char.{digit_value}
 use Rattle.std.specs.Str.{bytes_eq}
+use Rattle.std.specs.Str.Parse.{IsNumeral}
 use Rattle.std.proofs.lemmas.List.Elements.{All-nil, All-cons, All-head, All-tail}
 use Rattle.std.proofs.lemmas.Slice.Eq.{bytes_eq-Decides}
 use Rattle.clap.proofs.WalkLemmas.{both}
@@ -13,8 +15,8 @@ use Rattle.centre_words.specs.declared.asked.Asked.{Asked}
 use Rattle.centre_words.specs.declared.asked.Asked.TheVariants as asked
 use Rattle.centre_words.specs.Commands.{AsksBy, the_app}
 use Rattle.centre_words.specs.PlainWords.{is_bare, is_word}
-use Rattle.centre_words.specs.Table.{Number, Row, table, check_row, score_row, solve_row, verify_row, turns, seed, flips}
-use Rattle.centre_words.specs.Words.{Asks, AsksSolve, IsChosen, IsPlain, IsPlainPiece, Piece, dashed, name, given, names_of, spelling, values_of}
+use Rattle.centre_words.specs.Table.{Number, Row, table, check_row, score_row, solve_row, verify_row, trace_row, input, turns, seed, flips}
+use Rattle.centre_words.specs.Words.{Asks, AsksSolve, IsChosen, IsNumberUpTo, IsPlain, IsPlainPiece, Piece, dashed, name, given, names_of, spelling, values_of}
 use Rattle.centre_words.proofs.Pieces.{Few, Fits, rows_for}
 use Rattle.centre_words.proofs.Rules.{at_all, has, options, places}
 use Rattle.centre_words.proofs.Tops.{named, parts_of, row_at, row_fault, row_rows}
@@ -185,6 +187,11 @@ as_row row r words found at at_r same s =
     let is : row ≡ r = cc both in
     subst (λ q. Said q words found) is s
 
+-- a number that must be there has a word
+given_word : (o : Option Text) (t : ℕ) → IsChosen input (option_to_list o) (Some t) → (word : Text) × (o ≡ Some word) × IsNumberUpTo input.most word t
+given_word None t h = cc
+given_word (Some word) t h = (word, refl, h)
+
 pub asks_from : (row : Row) (words : List Text) (found : List Given) → row_at row.name table ≡ Some row → Said row words found → (a : Asked) → AsksBy row.name found a → Asks words a
 asks_from row words found at s (asked.Check i) h =
     let b = said_bare check_row refl refl words found (as_row row check_row words found at refl h.0 s) (i ∷ []) (λ j. h.1 j ∷ []) in
@@ -207,6 +214,10 @@ asks_from row words found at s (asked.Solve i t n m o) h =
 asks_from row words found at s (asked.Verify i t c) h =
     let b = said_bare verify_row refl refl words found (as_row row verify_row words found at refl h.0 s) (i ∷ t ∷ c ∷ []) (λ j. h.1 j ∷ h.2 j ∷ h.3 j ∷ []) in
     (b.0, b.1.0, b.1.1.0, b.1.1.1.0)
+asks_from row words found at s (asked.Trace i t) h =
+    let w = given_word (first_of input.name found) t h.2 in
+    let b = said_bare trace_row refl refl words found (as_row row trace_row words found at refl h.0 s) (i ∷ w.0 ∷ []) (λ j. h.1 j ∷ w.1 j ∷ []) in
+    (w.0, b.0, b.1.0, w.2)
 
 -- ---- and back
 
@@ -248,12 +259,18 @@ meets_solve words i t n m o h =
       subst (λ vs. IsChosen flips vs o) (value flips.name refl) h.flips_is,
     )
 
+digits_plain : (word : Text) → IsNumeral 10 word → IsPlain word
+digits_plain [] digits = absurd (omega (arith, digits.0))
+digits_plain (b ∷ bs) digits = λ dash. let h : 36 < 10 = subst (λ n. digit_value n < 10) dash digits.1.0 in absurd (omega (arith, h))
+
 pub meets : (words : List Text) (a : Asked) → Asks words a → Meets words a
 meets words (asked.Check i) h = meets_row check_row refl words (asked.Check i) (name i ∷ []) h.0 (h.1, tt) (λ o is. cc) (refl, refl)
 meets words (asked.Score i t) h = meets_row score_row refl words (asked.Score i t) (name i ∷ name t ∷ []) h.0 (h.1, (h.2, tt)) (λ o is. cc) (refl, refl, refl)
 meets words (asked.Solve i t n m o) h = meets_solve words i t n m o h
 meets words (asked.Verify i t c) h =
     meets_row verify_row refl words (asked.Verify i t c) (name i ∷ name t ∷ name c ∷ []) h.0 (h.1, (h.2, (h.3, tt))) (λ o is. cc) (refl, refl, refl, refl)
+meets words (asked.Trace i t) h =
+    meets_row trace_row refl words (asked.Trace i t) (name i ∷ name h.0 ∷ []) h.1 (h.2, (digits_plain h.0 h.3.digits, tt)) (λ o is. cc) (refl, refl, h.3)
 
 -- ---- matches ask for at most one thing
 
@@ -275,6 +292,7 @@ command_of (asked.Check i) = codes "check"
 command_of (asked.Score i s) = codes "score"
 command_of (asked.Solve i s n m o) = codes "solve"
 command_of (asked.Verify i s c) = codes "verify"
+command_of (asked.Trace i t) = codes "trace"
 
 asks_by_once : (command : Text) (found : List Given) (a b : Asked) → AsksBy command found a → AsksBy command found b → a ≡ b
 asks_by_once command found (asked.Check i) (asked.Check j) h k = ap asked.Check (same_name _ i j h.1 k.1)
@@ -291,6 +309,10 @@ asks_by_once command found (asked.Verify i s c) (asked.Verify j t d) h k =
     let es = same_name _ s t h.2 k.2 in
     let ec = same_name _ c d h.3 k.3 in
     λ l. asked.Verify (ei l) (es l) (ec l)
+asks_by_once command found (asked.Trace i t) (asked.Trace j u) h k =
+    let ei = same_name _ i j h.1 k.1 in
+    let et = some_is t u (number_once input _ (Some t) (Some u) h.2 k.2) in
+    λ l. asked.Trace (ei l) (et l)
 asks_by_once command found a b h k = let clash : bytes_eq (command_of a) (command_of a) ≡ bytes_eq (command_of b) (command_of a) = ap (λ t. bytes_eq t (command_of a)) (sym h.0 ∙ k.0) in cc
 
 pub same_found : (o : Option (Text × List Given)) (c d : Text) (f g : List Given) → o ≡ Some (c, f) → o ≡ Some (d, g) → (c ≡ d) × (f ≡ g)

@@ -10,7 +10,7 @@ use Rattle.clap.specs.Simple.{filled_from, new_rule}
 use Rattle.clap.specs.declared.builder.action.ArgAction.TheVariants.{Set}
 use Rattle.clap.specs.declared.builder.value_parser.ValueParser.TheVariants as vp
 use Rattle.centre_words.specs.Commands.{item_rule}
-use Rattle.centre_words.specs.Table.{Item, file, choice}
+use Rattle.centre_words.specs.Table.{Item, file, count, choice}
 
 -- an item, as `clap` tells them apart
 pub data Part : Type 0 where
@@ -19,6 +19,7 @@ pub data Part : Type 0 where
 
 abbrev pub part_of : Item → Part
 part_of (file id) = place id
+part_of (count number) = place number.name
 part_of (choice number) = option number.name
 
 abbrev pub places : List Part → List Text
@@ -55,6 +56,7 @@ rules_from i (option id ∷ parts) = ours id (Some id) None ∷ rules_from i par
 pub filled_is : (i : ℕ) (items : List Item) → filled_from i (map item_rule items) ≡ rules_from i (map part_of items)
 filled_is i [] = refl
 filled_is i (file id ∷ items) = ap (λ rs. ours id None (Some i) ∷ rs) (filled_is (next i) items)
+filled_is i (count number ∷ items) = ap (λ rs. ours number.name None (Some i) ∷ rs) (filled_is (next i) items)
 filled_is i (choice number ∷ items) = ap (λ rs. ours number.name (Some number.name) None ∷ rs) (filled_is i items)
 
 -- a rule has the id

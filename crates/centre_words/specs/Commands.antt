@@ -4,7 +4,7 @@ use Rattle.std.specs.List.{fold}
 use Rattle.clap.specs.Walk.{Row as Found, Rule, Text, first_of}
 use Rattle.clap.specs.Simple.{App, new_shape, new_rule, with_subcommand}
 use Rattle.clap.specs.declared.builder.action.ArgAction.TheVariants.{Set}
-use Rattle.centre_words.specs.Table.{Item, Row, file, choice, turns, seed, flips, table}
+use Rattle.centre_words.specs.Table.{Item, Row, file, count, choice, turns, seed, flips, input, table}
 use Rattle.centre_words.specs.Words.{IsChosen}
 use Rattle.centre_words.specs.declared.asked.Asked.{Asked}
 use Rattle.centre_words.specs.declared.asked.Asked.TheVariants as asked
@@ -18,6 +18,7 @@ option_rule id = record (new_rule id) { long = Some id; action = Some Set }
 
 abbrev pub item_rule : Item → Rule
 item_rule (file id) = place_rule id
+item_rule (count number) = place_rule number.name
 item_rule (choice number) = option_rule number.name
 
 abbrev pub with_rules : App → List Rule → App
@@ -64,3 +65,5 @@ AsksBy command found (asked.Solve instance solution n_turns n_seed n_flips) =
 AsksBy command found (asked.Verify instance solution certificate) =
     (command ≡ codes "verify") × (first_of (codes "instance") found ≡ Some instance) × (first_of (codes "solution") found ≡ Some solution)
     × (first_of (codes "certificate") found ≡ Some certificate)
+AsksBy command found (asked.Trace instance t) =
+    (command ≡ codes "trace") × (first_of (codes "instance") found ≡ Some instance) × IsChosen input (values_in found input.name) (Some t)

@@ -10,6 +10,7 @@ pub record Number : Type 0 where
 -- what stands behind a command: in its place, or an option anywhere
 pub data Item : Type 0 where
   file : (id : List ℕ) → Item
+  count : (number : Number) → Item
   choice : (number : Number) → Item
 
 pub record Row : Type 0 where
@@ -20,6 +21,7 @@ pub record Row : Type 0 where
 abbrev pub option_names : List Item → List (List ℕ)
 option_names [] = []
 option_names (file id ∷ items) = option_names items
+option_names (count number ∷ items) = option_names items
 option_names (choice number ∷ items) = number.name ∷ option_names items
 
 abbrev pub options_of : Row → List (List ℕ)
@@ -33,6 +35,9 @@ seed = record { name = codes "seed"; most = 18446744073709551615; usual = Some 1
 
 abbrev pub flips : Number
 flips = record { name = codes "flips"; most = 1000000000; usual = None }
+
+abbrev pub input : Number
+input = record { name = codes "input"; most = 255; usual = None }
 
 abbrev pub check_row : Row
 check_row = record { name = codes "check"; items = file (codes "instance") ∷ [] }
@@ -49,5 +54,8 @@ solve_row = record {
 abbrev pub verify_row : Row
 verify_row = record { name = codes "verify"; items = file (codes "instance") ∷ file (codes "solution") ∷ file (codes "certificate") ∷ [] }
 
+abbrev pub trace_row : Row
+trace_row = record { name = codes "trace"; items = file (codes "instance") ∷ count input ∷ [] }
+
 abbrev pub table : List Row
-table = check_row ∷ score_row ∷ solve_row ∷ verify_row ∷ []
+table = check_row ∷ score_row ∷ solve_row ∷ verify_row ∷ trace_row ∷ []

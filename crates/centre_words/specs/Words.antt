@@ -4,7 +4,7 @@ use Rattle.std.specs.List.{All, list_any}
 use Rattle.std.specs.Str.{bytes_eq}
 use Rattle.std.specs.Str.Parse.{IsNumeral, digits_value}
 use Rattle.std.specs.declared.alloc.Global.{Global}
-use Rattle.centre_words.specs.Table.{Number, turns, seed, flips, options_of, solve_row}
+use Rattle.centre_words.specs.Table.{Number, turns, seed, flips, input, options_of, solve_row}
 use Rattle.centre_words.specs.declared.asked.Asked.{Asked}
 use Rattle.centre_words.specs.declared.asked.Asked.TheVariants as asked
 
@@ -81,6 +81,8 @@ Asks words (asked.Score instance solution) = (words ≡ codes "score" ∷ instan
 Asks words (asked.Solve instance solution n_turns n_seed n_flips) = AsksSolve words instance solution n_turns n_seed n_flips
 Asks words (asked.Verify instance solution certificate) =
     (words ≡ codes "verify" ∷ instance ∷ solution ∷ certificate ∷ []) × IsPlain instance × IsPlain solution × IsPlain certificate
+Asks words (asked.Trace instance t) =
+    (word : List ℕ) × (words ≡ codes "trace" ∷ instance ∷ word ∷ []) × IsPlain instance × IsNumberUpTo input.most word t
 
 -- the words are those of no command
 abbrev pub IsUnasked : List (List ℕ) → Type 0

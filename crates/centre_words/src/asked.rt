@@ -31,6 +31,11 @@ pub enum Asked {
         solution: Name,
         certificate: Name,
     },
+    /// How many flips the run of an instance's input has; the input is named by its place.
+    Trace {
+        instance: Name,
+        t: u64,
+    },
 }
 
 /// Why nothing was read.

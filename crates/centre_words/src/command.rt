@@ -19,6 +19,7 @@ fn item_arg<'a>(alloc: Global, item: Item) -> Arg<'a>
 {
     match item {
         Item::File(id) => Arg::new(alloc, id).action(ArgAction::Set),
+        Item::Count(number) => Arg::new(alloc, number.name).action(ArgAction::Set),
         Item::Choice(number) => Arg::new(alloc, number.name)
             .long(number.name)
             .action(ArgAction::Set),

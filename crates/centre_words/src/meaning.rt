@@ -9,7 +9,7 @@ ghost use Rattle.centre_words.specs.declared.asked.Asked.{Asked};
 use crate::asked::{Asked, WordsFault};
 use crate::name::Name;
 use crate::number::number_up_to;
-use crate::table::{FLIPS, Number, SEED, TURNS};
+use crate::table::{FLIPS, INPUT, Number, SEED, TURNS};
 use clap::ArgMatches;
 use std::alloc::Global;
 
@@ -100,6 +100,11 @@ pub fn asked_by(alloc: Global, command: &str, found: &ArgMatches<'_>) -> Result<
             instance: name_in(alloc, found, "instance")?,
             solution: name_in(alloc, found, "solution")?,
             certificate: name_in(alloc, found, "certificate")?,
+        })
+    } else if command == "trace" {
+        Ok(Asked::Trace {
+            instance: name_in(alloc, found, "instance")?,
+            t: some_number_in(found, INPUT)?,
         })
     } else {
         Err(WordsFault::Words)

@@ -16,6 +16,7 @@ pub struct Number {
 #[derive(Clone, Copy, Drop)]
 pub enum Item {
     File(&'static str),
+    Count(Number),
     Choice(Number),
 }
 
@@ -45,7 +46,14 @@ pub const FLIPS: Number = Number {
     usual: None,
 };
 
-static ROWS: [Row; 4] = [
+// The place of an input of an instance.
+pub const INPUT: Number = Number {
+    name: "input",
+    most: 255,
+    usual: None,
+};
+
+static ROWS: [Row; 5] = [
     Row {
         name: "check",
         items: &[Item::File("instance")],
@@ -71,6 +79,10 @@ static ROWS: [Row; 4] = [
             Item::File("solution"),
             Item::File("certificate"),
         ],
+    },
+    Row {
+        name: "trace",
+        items: &[Item::File("instance"), Item::Count(INPUT)],
     },
 ];
 

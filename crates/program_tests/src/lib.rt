@@ -10,6 +10,8 @@ mod sizes;
 #[cfg(test)]
 mod solving;
 #[cfg(test)]
+mod tracing;
+#[cfg(test)]
 mod verifying;
 #[cfg(test)]
 mod weights;

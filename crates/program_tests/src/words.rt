@@ -71,6 +71,17 @@ fn other_words_are_refused(rt: HostRuntime) -> Result<(), Fail> {
         "verify -q s c",
         "verify q s -c",
         "verify q s c --turns 1",
+        "trace",
+        "trace q",
+        "trace q ",
+        "trace  1",
+        "trace -q 1",
+        "trace q -1",
+        "trace q +1",
+        "trace q x",
+        "trace q 256",
+        "trace q 00000000000000000000001",
+        "trace q 1 2",
         "solve q",
         "solve q s t",
         "solve q q",
@@ -134,6 +145,24 @@ fn verify_has_three_names(rt: HostRuntime) -> Result<(), Fail> {
             certificate: Name::of(alloc, certificate)?,
         };
         assert_eq!(rt; read(alloc, line)?, Some(verify), "{line}");
+    }
+    Ok(())
+}
+
+#[test]
+fn trace_has_a_name_and_a_place(rt: HostRuntime) -> Result<(), Fail> {
+    let alloc = rt.alloc();
+    let rows = [
+        ("trace q.json 0", 0),
+        ("trace q.json 255", 255),
+        ("trace q.json 00000000000000000007", 7),
+    ];
+    for (line, t) in rows {
+        let trace = Asked::Trace {
+            instance: Name::of(alloc, "q.json")?,
+            t,
+        };
+        assert_eq!(rt; read(alloc, line)?, Some(trace), "{line}");
     }
     Ok(())
 }

@@ -10,6 +10,7 @@ returns g c =
         words_refused = run.words;
         refused = run.refused;
         budget = run.budget;
+        budget_is_short = run.budget_is_short;
         no = run.no;
         no_by_verify = run.no_by_verify;
         memory = λ is. (run.memory is, run.memory_kept is);

@@ -1,12 +1,12 @@
 use Rattle.std.proofs.Common.{refl, sym, ap, subst, string_bytes, Err}
 use Rattle.std.proofs.lemmas.Result.{IfOk-weaker}
-use Rattle.centre_words.specs.declared.asked.Asked.TheVariants.{Check, Score, Solve, Verify}
+use Rattle.centre_words.specs.declared.asked.Asked.TheVariants.{Check, Score, Solve, Verify, Trace}
 use Rattle.centre_words.specs.Words.{texts, Asks}
 use Rattle.host_io.specs.Store.{Rose}
 use Rattle.centre_run.specs.declared.status.Status.TheVariants.{Done, ReadFault, WriteFault}
 use Rattle.centre_run.specs.Runs.{Does}
 use Rattle.centre_run.specs.Calls.{CallsFor, CommandCalls}
-use Rattle.centre_run.proofs.Calling.{of_asked, check_calls}
+use Rattle.centre_run.proofs.Calling.{of_asked, check_calls, trace_calls}
 use Rattle.centre_words.specs.declared.asked.Asked.{Asked}
 use Rattle.centre_run.proofs.Saying.{command_does, command_breaks_off, words_does, verify_asked}
 use Rattle.centre_run.proofs.run.reply_to.Goals as goal
@@ -118,6 +118,30 @@ returns-in-Ok-Verify-clause-called g c =
     let now = g.S.Store.calls c.verify_files.new.store in
     IfOk-weaker c.verify_files.result _ (λ r. (d : Asked) → Asks words d → CallsFor d r.status before now)
     (λ r called. of_asked words (λ d. CallsFor d r.status before now) (Verify first second third) asks called) c.verify_files.ensures.called
+
+pub returns-in-Ok-Trace-clause-does : goal.returns-in-Ok-Trace-clause-does
+returns-in-Ok-Trace-clause-does g c =
+    let words = texts c.args.words.now in
+    let old = g.S.Store.held c.args.store.now in
+    let new = g.S.Store.held c.trace_file.new.store in
+    let o = c.in-Ok-Trace in
+    let name = c.text-in-Ok-Trace.result.now in
+    let asks = subst (λ n. Asks words (Trace n o.t)) (sym c.text-in-Ok-Trace.ensures.bytes) (subst (λ a. Asks words a) o.field-0-is o.ensures.asked) in
+    IfOk-weaker c.trace_file.result _ (λ r. Does words old new r.status (string_bytes r.line))
+    (λ r does. command_does words old new (Trace name o.t) r.status (string_bytes r.line) asks does) c.trace_file.ensures.does
+
+pub returns-in-Ok-Trace-clause-called : goal.returns-in-Ok-Trace-clause-called
+returns-in-Ok-Trace-clause-called g c =
+    let words = texts c.args.words.now in
+    let old = g.S.Store.held c.args.store.now in
+    let new = g.S.Store.held c.trace_file.new.store in
+    let o = c.in-Ok-Trace in
+    let name = c.text-in-Ok-Trace.result.now in
+    let asks = subst (λ n. Asks words (Trace n o.t)) (sym c.text-in-Ok-Trace.ensures.bytes) (subst (λ a. Asks words a) o.field-0-is o.ensures.asked) in
+    let before = g.S.Store.calls c.args.store.now in
+    let now = g.S.Store.calls c.trace_file.new.store in
+    IfOk-weaker c.trace_file.result _ (λ r. (d : Asked) → Asks words d → CallsFor d r.status before now)
+    (λ r does. of_asked words (λ d. CallsFor d r.status before now) (Trace name o.t) asks (trace_calls old new name o.t r.status (string_bytes r.line) before now does c.trace_file.ensures.counted)) c.trace_file.ensures.does
 
 pub returns-in-Err-Words-clause-does : goal.returns-in-Err-Words-clause-does
 returns-in-Err-Words-clause-does g c =

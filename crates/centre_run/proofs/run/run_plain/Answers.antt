@@ -1,6 +1,7 @@
 use Rattle.std.proofs.Common.{◌≡◌, inl, ap, subst, string_bytes, Err}
 use Rattle.centre_words.specs.Words.{texts}
 use Rattle.centre_run.specs.Runs.{Says, Does, HasReadCause, IsTold, IsCutOff}
+use Rattle.centre_run.proofs.Budgets.{budget_is_short}
 use Rattle.centre_run.proofs.Once.{says_once, read_fault_says}
 use Rattle.centre_run.proofs.Saying.{no_by_verify, same_keeps, done_keeps, broken_off_keeps, told_whole, cut_off, cut_part}
 use Rattle.centre_run.proofs.Calling.{said_calls}
@@ -65,6 +66,12 @@ returns-clause-budget g c = λ is.
       subst (λ s. Does (texts c.args.words.now) (g.S.Store.held c.args.store.now) (g.S.Store.held c.reply_to.new.store) s line) is c.in-Ok.ensures.does,
       subst (λ text. IsTold (g.O.Sink.told c.args.out.now) (g.O.Sink.told c.put_all.new.out) text) c.as_bytes.ensures.value (told_whole (g.O.Sink.told c.args.out.now) (g.O.Sink.told c.put_all.new.out) c.as_bytes.result.now c.in-Ok-put_all.field-0 c.in-Ok-put_all.ensures.told),
     )
+
+pub returns-clause-budget_is_short : goal.returns-clause-budget_is_short
+returns-clause-budget_is_short g c = λ is.
+    let line = string_bytes c.in-Ok.reply.line in
+    budget_is_short (texts c.args.words.now) (g.S.Store.held c.args.store.now) (g.S.Store.held c.reply_to.new.store) line
+    (subst (λ s. Does (texts c.args.words.now) (g.S.Store.held c.args.store.now) (g.S.Store.held c.reply_to.new.store) s line) is c.in-Ok.ensures.does)
 
 pub returns-clause-no : goal.returns-clause-no
 returns-clause-no g c = λ is.

@@ -1,5 +1,6 @@
-use Rattle.std.proofs.Common.{◌≡◌, ◌∙◌, sym, true, Err}
+use Rattle.std.proofs.Common.{◌≡◌, ◌∙◌, List, None, Some, ap, option_map, sym, true, Err}
 use Rattle.std.proofs.lemmas.Result.{IfOk-weaker, err_from_is_err_and}
+use Rattle.clap.specs.Walk.{Row, Text}
 use Rattle.clap.specs.Words.{found_of, rows_of}
 use Rattle.centre_words.specs.PlainWords.{is_word}
 use Rattle.centre_words.specs.Words.{texts}
@@ -36,3 +37,9 @@ returns-in-Some-clause-words c = λ e a h.
     let m : Meets (texts c.args.words.now) a = meets (texts c.args.words.now) a h in
     let is = found_is c.in_ok-matches.matches c.in-Some.command.now (rows_of (found_of c.in-Some.found.now)) _ (c.in_ok-matches.ensures.matches simple).1 c.in-Some.ensures.name c.in-Some.ensures.rows in
     c.asked_by.ensures.words e a (by_matches (texts c.args.words.now) a m c.in-Some.command.now (rows_of (found_of c.in-Some.found.now)) is)
+
+pub returns-clause-words : goal.returns-clause-words
+returns-clause-words c = λ _ a h.
+    let m : Meets (texts c.args.words.now) a = meets (texts c.args.words.now) a h in
+    let is : None ≡ Some m.found = c.in-None.ensures.rows ∙ ap (option_map (λ (p : Text × List Row). p.1)) ((c.in_ok-matches.ensures.matches simple).1 ∙ m.matches) in
+    cc
