@@ -1,10 +1,13 @@
 -- A budget that is too small is one that was given, and less than the pairs of points.
-use Rattle.std.proofs.Common.{◌≡◌, ◌<◌, ℕ, List, length, inl, inr, Option, Some, None, arith}
-use Rattle.std.proofs.Math.Nat.{lt_of_not-le}
+use Rattle.std.proofs.Common.{◌≡◌, ◌<◌, ◌≤◌, ℕ, List, length, inl, inr, Option, Some, None, arith}
+use Rattle.std.proofs.lemmas.Option.{slice_get_within, get_or_from_slice_get}
 use Rattle.host_io.specs.Store.{Held}
 use Rattle.tri_check.specs.Problems.{Problem, IsProblem}
 use Rattle.lawson_start.specs.Starts.{IsOverBudget}
-use Rattle.lawson_start.proofs.Openings.{input_at, never_longer}
+use Rattle.edge_table.specs.declared.edge.Edge.{Edge}
+use Rattle.tri_theory.specs.Triangulations.{IsTriangulation}
+use Rattle.lawson_law.specs.LawsonRuns.{IsLawsonRun}
+use Rattle.lawson_law.proofs.Proved.{runs_exist, runs_have_lengths, runs_are_short}
 use Rattle.centre_words.specs.declared.asked.Asked.{Asked}
 use Rattle.centre_words.specs.declared.asked.Asked.TheVariants.{Check, Score, Solve, Verify, Trace}
 use Rattle.centre_words.specs.Words.{Asks}
@@ -15,7 +18,18 @@ use Rattle.centre_run.specs.Runs.{Files, CommandSays, Does, AllowsFewFlips}
 
 -- a run is longer than the budget only where that is less than the pairs of points
 few_flips : (i : Problem) (n t : ℕ) → IsProblem i.points i.inputs → IsOverBudget i.points i.inputs n t → n < pairs_of (length i.points)
-few_flips i n t problem over = lt_of_not-le (λ l. never_longer i.points problem.placed over.input (input_at i.points i.inputs t over.input problem over.there) n l over.longer)
+few_flips i n t problem over = by_run (runs_exist i.points over.input problem.placed there)
+  where
+    there : IsTriangulation i.points over.input
+    there = problem.triangulated over.input (t, slice_get_within i.inputs t over.input over.there, get_or_from_slice_get i.inputs t over.input over.input over.there)
+
+    between : (few many most : ℕ) → few < many → many ≤ most → few < most
+    between few many most l m = omega arith
+
+    by_run : (flips to : List Edge) × IsLawsonRun i.points over.input flips to → n < pairs_of (length i.points)
+    by_run (flips, to, run) =
+        between n (length flips) (pairs_of (length i.points)) ((runs_have_lengths i.points over.input flips to n problem.placed there run).0 over.longer)
+        (runs_are_short i.points over.input flips to problem.placed there run.0)
 
 not_less : (n : ℕ) → n < n → ⊥
 not_less n l = omega arith

@@ -1,11 +1,17 @@
--- What the verifier accepts is proved.
-use Rattle.std.proofs.Common.{◌≡◌, ◌∙◌, sym, ap₂, subst, ℕ, ◌≤◌, List, Ok, Err, string_bytes}
+-- What the verifier accepts is proved, and what is said of values is said of the texts that spell them.
+use Rattle.std.proofs.Common.{◌≡◌, ◌∙◌, inl, inr, sym, ap₂, subst, ℕ, ◌≤◌, List, Ok, Err, string_bytes}
 use Rattle.std.specs.Prelude.{Result, IfOk, String}
 use Rattle.std.specs.declared.alloc.Global.{Global}
 use Rattle.std.specs.declared.alloc.AllocError.{AllocError}
 use Rattle.edge_table.specs.declared.edge.Edge.{Edge}
 use Rattle.tri_theory.specs.Rounds.{IsPlan, total}
 use Rattle.tri_check.specs.Problems.{Problem}
+use Rattle.tri_check.specs.declared.raw.RawInstance.{RawInstance}
+use Rattle.instance_json.specs.Faults.{HasForm}
+use Rattle.instance_json.specs.Forms.{Spells}
+use Rattle.solution_json.specs.Faults as solution_fault
+use Rattle.solution_json.specs.Forms as solution_form
+use Rattle.cert_text.specs.Forms as cert_form
 use Rattle.solution_json.specs.declared.solution.Solution.{Solution}
 use Rattle.cert_text.specs.declared.cert.Cert.{Cert}
 use Rattle.verify_core.specs.Faults.{IsShown}
@@ -14,7 +20,7 @@ use Rattle.centre_run.specs.declared.reply.Reply.{Reply}
 use Rattle.centre_run.specs.declared.status.Status.{Status}
 use Rattle.centre_run.specs.declared.status.Status.TheVariants.{Done}
 use Rattle.centre_run.specs.VerifyLines.{yes_line}
-use Rattle.centre_run.specs.Runs.{IsSolved, IsProved, CertificateSays}
+use Rattle.centre_run.specs.Runs.{IsSolved, IsProved, RawSays, CertificateSays, VerifySays}
 
 shown_solved : (i : Problem) (s : Solution) (c : Cert) → IsShown i s c → IsSolved i s
 shown_solved i s c (frame, V) = record { uid = V.solution_uid; centre = V.centre; plan = V.plan; distinct = V.distinct }
@@ -41,3 +47,10 @@ pub shown_reply : (i : Problem) (s : Solution) (c : Cert) (proved bound : ℕ) (
 shown_reply i s c proved bound (Err quiet) text shown reached said is least told done line = tt
 shown_reply i s c proved bound (Ok r) text shown reached said is least told done line =
     shown_says i s c proved bound r.status (string_bytes r.line) shown reached said is least done (subst (λ t. IfOk t (λ u. string_bytes u ≡ yes_line proved bound)) line told)
+
+-- three texts say what the values say that they spell
+pub texts_say : (bytes others last : List ℕ) (raw : RawInstance) (s : Solution) (c : Cert) (status : Status) (line : List ℕ) → HasForm bytes → Spells bytes raw → solution_fault.HasForm others → solution_form.Spells others s → cert_form.Spells last c
+    → RawSays raw (λ i. CertificateSays i s c) status line → VerifySays bytes others last status line
+texts_say bytes others last raw s c status line form spells has text read (inl (bad, refused, first, told)) = inl (refused, inr (inr (inr (raw, bad, c, has, read, spells, first, told))))
+texts_say bytes others last raw s c status line form spells has text read (inr (i, accepted, problem, says)) =
+    inr (i, s, c, record { raw = raw; valid = (form, spells, accepted.valid); accepted = accepted; problem = problem }, (has, text), read, says)

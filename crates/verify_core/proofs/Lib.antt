@@ -1,5 +1,5 @@
 mod Bounds
-mod Clear
+pub mod Clear
 mod Ends
 mod Formulas
 mod OneFault
