@@ -12,9 +12,9 @@ use Rattle.centre_words.specs.declared.asked.Asked.{Asked}
 use Rattle.centre_words.specs.declared.asked.Asked.TheVariants.{Check, Score, Solve, Verify, Trace}
 use Rattle.centre_words.specs.Words.{Asks}
 use Rattle.centre_run.specs.declared.status.Status.{Status}
-use Rattle.centre_run.specs.declared.status.Status.TheVariants.{FlipBudget}
-use Rattle.centre_run.specs.Orders.{pairs_of}
-use Rattle.centre_run.specs.Runs.{Files, CommandSays, Does, AllowsFewFlips}
+use Rattle.centre_run.specs.declared.status.Status.TheVariants.{FlipBudget, Refused, Words, ReadFault}
+use Rattle.centre_run.specs.Orders.{pairs_of, flips_allowed}
+use Rattle.centre_run.specs.Runs.{MayHold, SpellsInstance, ScoreSays, SolveSays, VerifySays, TraceSays, Files, CommandSays, Says, Does, AllowsFewFlips}
 
 -- a run is longer than the budget only where that is less than the pairs of points
 few_flips : (i : Problem) (n t : ℕ) → IsProblem i.points i.inputs → IsOverBudget i.points i.inputs n t → n < pairs_of (length i.points)
@@ -34,21 +34,51 @@ few_flips i n t problem over = by_run (runs_exist i.points over.input problem.pl
 not_less : (n : ℕ) → n < n → ⊥
 not_less n l = omega arith
 
+not_refused : FlipBudget ≡ Refused → ⊥
+not_refused e = cc
+
+not_words : FlipBudget ≡ Words → ⊥
+not_words e = cc
+
+not_unread : FlipBudget ≡ ReadFault → ⊥
+not_unread e = cc
+
+-- ---- only `solve` says it
+score_never : (bytes others line : List ℕ) → ScoreSays bytes others FlipBudget line → ⊥
+score_never bytes others line (inl (refused, names)) = not_refused refused
+score_never bytes others line (inr (instance, solution, spells, lists, says)) = says
+
+verify_never : (bytes others last line : List ℕ) → VerifySays bytes others last FlipBudget line → ⊥
+verify_never bytes others last line (inl (refused, names)) = not_refused refused
+verify_never bytes others last line (inr (instance, solution, cert, spells, lists, text, says)) = says
+
+trace_never : (bytes : List ℕ) (t : ℕ) (line : List ℕ) → TraceSays bytes t FlipBudget line → ⊥
+trace_never bytes t line (inl (refused, names)) = not_refused refused
+trace_never bytes t line (inr (instance, spells, says)) = says
+
+-- an instance that the bytes spell, of which so many flips are too few
+abbrev IsShort : List ℕ → Option ℕ → Type 0
+IsShort bytes flips = (instance : Problem) × SpellsInstance bytes instance × (flips_allowed instance flips < pairs_of (length instance.points))
+
+solve_short : (bytes : List ℕ) (turns seed : ℕ) (flips : Option ℕ) (line : List ℕ) (text : Option (List ℕ)) → SolveSays bytes (record { turns = turns; seed = seed; flips = flips }) FlipBudget line text → IsShort bytes flips
+solve_short bytes turns seed flips line text (inl (refused, names, none)) = absurd (not_refused refused)
+solve_short bytes turns seed flips line text (inr (instance, spells, (t, over, told, none))) = (instance, spells, few_flips instance (flips_allowed instance flips) t spells.problem over)
+
+solve_few : (words : List (List ℕ)) (held : Option Held) (i target : List ℕ) (turns seed : ℕ) (flips : Option ℕ) (bytes : List ℕ) → Asks words (Solve i target turns seed flips) → MayHold held i bytes → IsShort bytes flips → AllowsFewFlips words held
+solve_few words held i target turns seed None bytes asks there (instance, spells, less) = absurd (not_less (pairs_of (length instance.points)) less)
+solve_few words held i target turns seed (Some flips) bytes asks there (instance, spells, less) = (i, target, turns, seed, flips, bytes, instance, asks, there, spells, less)
+
 few_asked : (words : List (List ℕ)) (held : Option Held) (c : Asked) (line : List ℕ) (files : Files) → Asks words c → CommandSays held c FlipBudget line files → AllowsFewFlips words held
 few_asked words held (Check i) line files asks (bytes, there, says, none) = absurd says
-few_asked words held (Score i s) line files asks (bytes, others, there, here, inl (refused, names), none) = cc
-few_asked words held (Score i s) line files asks (bytes, others, there, here, inr (instance, solution, spells, lists, says), none) = absurd says
-few_asked words held (Solve i target turns seed flips) line files asks (bytes, text, there, inl (refused, names, none), is) = cc
-few_asked words held (Solve i target turns seed None) line files asks (bytes, text, there, inr (instance, spells, (t, over, told, none)), is) =
-    absurd (not_less (pairs_of (length instance.points)) (few_flips instance (pairs_of (length instance.points)) t spells.problem over))
-few_asked words held (Solve i target turns seed (Some flips)) line files asks (bytes, text, there, inr (instance, spells, (t, over, told, none)), is) =
-    (i, target, turns, seed, flips, bytes, instance, asks, there, spells, few_flips instance flips t spells.problem over)
-few_asked words held (Verify i s c) line files asks (bytes, others, last, there, here, along, inl (refused, names), none) = cc
-few_asked words held (Verify i s c) line files asks (bytes, others, last, there, here, along, inr (instance, solution, cert, spells, lists, text, says), none) = absurd says
-few_asked words held (Trace i t) line files asks (bytes, there, inl (refused, names), none) = cc
-few_asked words held (Trace i t) line files asks (bytes, there, inr (instance, spells, says), none) = absurd says
+few_asked words held (Score i s) line files asks (bytes, others, there, here, says, none) = absurd (score_never bytes others line says)
+few_asked words held (Solve i target turns seed flips) line files asks (bytes, text, there, says, is) = solve_few words held i target turns seed flips bytes asks there (solve_short bytes turns seed flips line text says)
+few_asked words held (Verify i s c) line files asks (bytes, others, last, there, here, along, says, none) = absurd (verify_never bytes others last line says)
+few_asked words held (Trace i t) line files asks (bytes, there, says, none) = absurd (trace_never bytes t line says)
+
+says_few : (words : List (List ℕ)) (held : Option Held) (line : List ℕ) (files : Files) → Says words held FlipBudget line files → AllowsFewFlips words held
+says_few words held line files (inl (unasked, is, told, none)) = absurd (not_words is)
+says_few words held line files (inr (c, asks, inl says)) = few_asked words held c line files asks says
+says_few words held line files (inr (c, asks, inr (lacks, is, told, none))) = absurd (not_unread is)
 
 pub budget_is_short : (words : List (List ℕ)) (old new : Option Held) (line : List ℕ) → Does words old new FlipBudget line → AllowsFewFlips words old
-budget_is_short words old new line (files, inl (unasked, is, told, none), written) = cc
-budget_is_short words old new line (files, inr (c, asks, inl says), written) = few_asked words old c line files asks says
-budget_is_short words old new line (files, inr (c, asks, inr (lacks, is, told, none)), written) = cc
+budget_is_short words old new line (files, says, written) = says_few words old line files says
