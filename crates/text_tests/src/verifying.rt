@@ -149,19 +149,23 @@ const SECOND: Edit<'static> = (1, "flipcentre-certificate 2\n");
 
 const THIRD: Edit<'static> = (1, "flipcentre-certificate 3\n");
 
+// What is answered where all is shown.
+fn shown() -> Result<Yes, VerifyFault> {
+    Ok(Yes { total: 1, bound: 1 })
+}
+
 #[test]
 fn the_square_is_shown_in_each_version(rt: HostRuntime) -> Result<(), Fail> {
     let inst = square(rt.alloc(), [1, 1])?;
     let s = solution(rt.alloc(), "Q", 2, Some(edge(&rt, 0, 2)))?;
-    let wanted = Ok(Yes { total: 1, bound: 1 });
-    let versions: [(Edit, Edit); 3] = [
-        (NO_EDIT, NO_EDIT),
-        (SECOND, NO_EDIT),
-        (THIRD, (3, "inputs 2 2\n")),
+    let rows: [(Edit, Edit, Result<Yes, VerifyFault>); 3] = [
+        (NO_EDIT, NO_EDIT, shown()),
+        (SECOND, NO_EDIT, shown()),
+        (THIRD, (3, "inputs 2 2\n"), shown()),
     ];
-    for (version, counts) in versions {
+    for (version, counts, expected) in rows {
         let got = answer(rt.alloc(), &inst, &s, version, counts)?;
-        assert_eq!(rt; got, wanted);
+        assert_eq!(rt; got, expected);
     }
     Ok(())
 }
@@ -170,11 +174,6 @@ fn the_square_is_shown_in_each_version(rt: HostRuntime) -> Result<(), Fail> {
 const WHOLE: Edit<'static> = (10, "refuted 0 1\n14 0 2 8 0\n");
 
 const PRUNED: Edit<'static> = (10, "refuted 0 1\n11 0 2 0\n");
-
-// What is answered where all is shown.
-fn shown() -> Result<Yes, VerifyFault> {
-    Ok(Yes { total: 1, bound: 1 })
-}
 
 // What is answered where the log is one of another formula.
 fn refused() -> Result<Yes, VerifyFault> {
