@@ -1,3 +1,4 @@
+pub mod Differ
 pub mod Matches
 pub mod Meets
 pub mod Pieces

@@ -15,7 +15,7 @@ use Rattle.centre_words.specs.declared.asked.Asked.{Asked}
 use Rattle.centre_words.specs.declared.asked.Asked.TheVariants as asked
 use Rattle.centre_words.specs.Commands.{AsksBy, the_app}
 use Rattle.centre_words.specs.PlainWords.{is_bare, is_word}
-use Rattle.centre_words.specs.Table.{Number, Row, table, check_row, score_row, solve_row, verify_row, trace_row, input, turns, seed, flips}
+use Rattle.centre_words.specs.Table.{Number, Row, table, check_row, score_row, solve_row, verify_row, trace_row, input, workers, turns, seed, flips}
 use Rattle.centre_words.specs.Words.{Asks, AsksSolve, IsChosen, IsNumberUpTo, IsPlain, IsPlainPiece, Piece, dashed, name, given, names_of, spelling, values_of}
 use Rattle.centre_words.proofs.Pieces.{Few, Fits, rows_for}
 use Rattle.centre_words.proofs.Rules.{at_all, has, options, places}
@@ -199,17 +199,18 @@ asks_from row words found at s (asked.Check i) h =
 asks_from row words found at s (asked.Score i t) h =
     let b = said_bare score_row refl refl words found (as_row row score_row words found at refl h.0 s) (i ∷ t ∷ []) (λ j. h.1 j ∷ h.2 j ∷ []) in
     (b.0, b.1.0, b.1.1.0)
-asks_from row words found at s (asked.Solve i t n m o) h =
+asks_from row words found at s (asked.Solve i t c w n m o) h =
     let said = as_row row solve_row words found at refl h.0 s in
     record {
       pieces = said.pieces;
       spelled = said.spelled;
       plain = fits_all (opts_of solve_row) (ids_of solve_row) said.pieces said.fits;
-      names = said_names solve_row refl words found said (i ∷ t ∷ []) (λ j. h.1 j ∷ h.2 j ∷ []);
-      differ = h.3;
-      turns_is = subst (λ vs. IsChosen turns vs (Some n)) (said_values solve_row refl words found said turns.name refl) h.4;
-      seed_is = subst (λ vs. IsChosen seed vs (Some m)) (said_values solve_row refl words found said seed.name refl) h.5;
-      flips_is = subst (λ vs. IsChosen flips vs o) (said_values solve_row refl words found said flips.name refl) h.6;
+      names = said_names solve_row refl words found said (i ∷ t ∷ c ∷ []) (λ j. h.1 j ∷ h.2 j ∷ h.3 j ∷ []);
+      differ = h.4;
+      workers_is = subst (λ vs. IsChosen workers vs (Some w)) (said_values solve_row refl words found said workers.name refl) h.5;
+      turns_is = subst (λ vs. IsChosen turns vs (Some n)) (said_values solve_row refl words found said turns.name refl) h.6;
+      seed_is = subst (λ vs. IsChosen seed vs (Some m)) (said_values solve_row refl words found said seed.name refl) h.7;
+      flips_is = subst (λ vs. IsChosen flips vs o) (said_values solve_row refl words found said flips.name refl) h.8;
     }
 asks_from row words found at s (asked.Verify i t c) h =
     let b = said_bare verify_row refl refl words found (as_row row verify_row words found at refl h.0 s) (i ∷ t ∷ c ∷ []) (λ j. h.1 j ∷ h.2 j ∷ h.3 j ∷ []) in
@@ -238,22 +239,24 @@ each_once (k ∷ opts) pieces all o is = go (bytes_eq k o) refl is (each_once op
     go true same there more = subst (λ t. length (values_of t pieces) ≤ 1) ((bytes_eq-Decides k o).0 same) all.0
     go false same there more = more there
 
-meets_solve : (words : List Text) (i t : Text) (n m : ℕ) (o : Option ℕ) → AsksSolve words i t n m o → Meets words (asked.Solve i t n m o)
-meets_solve words i t n m o h =
-    let names : slots (ids_of solve_row) (names_of h.pieces) ≡ Some i ∷ Some t ∷ [] = ap (slots (ids_of solve_row)) h.names in
+meets_solve : (words : List Text) (i t c : Text) (w n m : ℕ) (o : Option ℕ) → AsksSolve words i t c w n m o → Meets words (asked.Solve i t c w n m o)
+meets_solve words i t c w n m o h =
+    let names : slots (ids_of solve_row) (names_of h.pieces) ≡ Some i ∷ Some t ∷ Some c ∷ [] = ap (slots (ids_of solve_row)) h.names in
     let short = ap length h.names in
     let fits = all_fit (opts_of solve_row) (ids_of solve_row) h.pieces (omega (arith, short)) h.plain in
     let once = each_once (opts_of solve_row) h.pieces
-    (chosen_once turns _ (Some n) h.turns_is, (chosen_once seed _ (Some m) h.seed_is, (chosen_once flips _ o h.flips_is, tt))) in
+    (chosen_once workers _ (Some w) h.workers_is, (chosen_once turns _ (Some n) h.turns_is, (chosen_once seed _ (Some m) h.seed_is, (chosen_once flips _ o h.flips_is, tt)))) in
     let found = rows_for (ids_of solve_row) h.pieces in
-    let firsts_are : firsts found (ids_of solve_row) ≡ Some i ∷ Some t ∷ [] = slots_are (opts_of solve_row) (ids_of solve_row) h.pieces refl fits ∙ names in
+    let firsts_are : firsts found (ids_of solve_row) ≡ Some i ∷ Some t ∷ Some c ∷ [] = slots_are (opts_of solve_row) (ids_of solve_row) h.pieces refl fits ∙ names in
     let value : (k : Text) → has k (opts_of solve_row) ≡ true → values_of k h.pieces ≡ option_to_list (first_of k found) =
     λ k is. sym (found_values k (opts_of solve_row) (ids_of solve_row) h.pieces (option_apart k (ids_of solve_row) (opts_of solve_row) refl is) fits (once k is)) in
-    meets_row solve_row refl words (asked.Solve i t n m o) h.pieces h.spelled fits once (
+    meets_row solve_row refl words (asked.Solve i t c w n m o) h.pieces h.spelled fits once (
       refl,
       cc firsts_are,
       cc firsts_are,
+      cc firsts_are,
       h.differ,
+      subst (λ vs. IsChosen workers vs (Some w)) (value workers.name refl) h.workers_is,
       subst (λ vs. IsChosen turns vs (Some n)) (value turns.name refl) h.turns_is,
       subst (λ vs. IsChosen seed vs (Some m)) (value seed.name refl) h.seed_is,
       subst (λ vs. IsChosen flips vs o) (value flips.name refl) h.flips_is,
@@ -266,7 +269,7 @@ digits_plain (b ∷ bs) digits = λ dash. let h : 36 < 10 = subst (λ n. digit_v
 pub meets : (words : List Text) (a : Asked) → Asks words a → Meets words a
 meets words (asked.Check i) h = meets_row check_row refl words (asked.Check i) (name i ∷ []) h.0 (h.1, tt) (λ o is. cc) (refl, refl)
 meets words (asked.Score i t) h = meets_row score_row refl words (asked.Score i t) (name i ∷ name t ∷ []) h.0 (h.1, (h.2, tt)) (λ o is. cc) (refl, refl, refl)
-meets words (asked.Solve i t n m o) h = meets_solve words i t n m o h
+meets words (asked.Solve i t c w n m o) h = meets_solve words i t c w n m o h
 meets words (asked.Verify i t c) h =
     meets_row verify_row refl words (asked.Verify i t c) (name i ∷ name t ∷ name c ∷ []) h.0 (h.1, (h.2, (h.3, tt))) (λ o is. cc) (refl, refl, refl, refl)
 meets words (asked.Trace i t) h =
@@ -290,20 +293,22 @@ same_name o v w e f = some_is v w (sym e ∙ f)
 abbrev command_of : Asked → Text
 command_of (asked.Check i) = codes "check"
 command_of (asked.Score i s) = codes "score"
-command_of (asked.Solve i s n m o) = codes "solve"
+command_of (asked.Solve i s c w n m o) = codes "solve"
 command_of (asked.Verify i s c) = codes "verify"
 command_of (asked.Trace i t) = codes "trace"
 
 asks_by_once : (command : Text) (found : List Given) (a b : Asked) → AsksBy command found a → AsksBy command found b → a ≡ b
 asks_by_once command found (asked.Check i) (asked.Check j) h k = ap asked.Check (same_name _ i j h.1 k.1)
 asks_by_once command found (asked.Score i s) (asked.Score j t) h k = ap₂ asked.Score (same_name _ i j h.1 k.1) (same_name _ s t h.2 k.2)
-asks_by_once command found (asked.Solve i s p q r) (asked.Solve j t n m o) h k =
+asks_by_once command found (asked.Solve i s c v p q r) (asked.Solve j t d w n m o) h k =
     let ei = same_name _ i j h.1 k.1 in
     let es = same_name _ s t h.2 k.2 in
-    let ep = some_is p n (number_once turns _ (Some p) (Some n) h.4 k.4) in
-    let eq = some_is q m (number_once seed _ (Some q) (Some m) h.5 k.5) in
-    let er = number_once flips _ r o h.6 k.6 in
-    λ l. asked.Solve (ei l) (es l) (ep l) (eq l) (er l)
+    let ec = same_name _ c d h.3 k.3 in
+    let ew = some_is v w (number_once workers _ (Some v) (Some w) h.5 k.5) in
+    let ep = some_is p n (number_once turns _ (Some p) (Some n) h.6 k.6) in
+    let eq = some_is q m (number_once seed _ (Some q) (Some m) h.7 k.7) in
+    let er = number_once flips _ r o h.8 k.8 in
+    λ l. asked.Solve (ei l) (es l) (ec l) (ew l) (ep l) (eq l) (er l)
 asks_by_once command found (asked.Verify i s c) (asked.Verify j t d) h k =
     let ei = same_name _ i j h.1 k.1 in
     let es = same_name _ s t h.2 k.2 in

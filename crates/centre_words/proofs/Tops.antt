@@ -1,10 +1,12 @@
 -- What `clap` makes of whole words: the first names a row, and the rest is read by that row's rules.
-use Rattle.std.proofs.Common.{◌≡◌, ◌∙◌, ◌&&◌, ◌||◌, ◌++◌, ℕ, Bool, true, false, not, cond, sym, ap, ap₂, refl, List, [], ◌∷◌, Option, Some, None, map, option_map, find, append_assoc, append-nil, ne_eqb}
+use Rattle.std.proofs.Common.{◌≡◌, ◌∙◌, ◌&&◌, ◌||◌, ◌++◌, ℕ, Bool, true, false, not, cond, sym, ap, ap₂, refl, List, [], ◌∷◌, Option, Some, None, map, option_map, find, append_assoc, append-nil, ne_eqb, inl, inr}
 use Rattle.std.specs.List.{fold, list_all, list_any}
 use Rattle.std.specs.Str.{bytes_eq}
 use Rattle.std.proofs.lemmas.Slice.Eq.{bytes_eq-Decides}
-use Rattle.clap.specs.declared.error.kind.ErrorKind.TheVariants.{MissingRequiredArgument}
-use Rattle.clap.specs.Kinds.{Kinds, or_else}
+use Rattle.clap.specs.declared.error.kind.ErrorKind.TheVariants.{MissingRequiredArgument, OutOfMemory}
+use Rattle.clap.specs.declared.error.Error.{Error}
+use Rattle.clap.specs.Values.{kind_of}
+use Rattle.clap.specs.Kinds.{HasKind, Kinds, or_else}
 use Rattle.clap.proofs.WalkLemmas.{both, find-map}
 use Rattle.clap.specs.Faults.{built_fault, default_fault, defaults_fault, fault_of, is_simple_and_free, level_fault, settle_fault, turn_fault, walk_fault}
 use Rattle.clap.specs.Takes.{is_given}
@@ -27,6 +29,11 @@ simple = refl
 pub simple_and_free : is_simple_and_free the_app ≡ true
 unfolding clap_on_literals
 simple_and_free = refl
+
+-- an error that has none of the kinds is want of memory
+pub only_memory : (e : Error) → HasKind [] e → kind_of e ≡ OutOfMemory
+only_memory e (inl memory) = memory
+only_memory e (inr none) = absurd none
 
 abbrev pub parts_of : Row → List Part
 parts_of row = map part_of row.items

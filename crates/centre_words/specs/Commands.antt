@@ -1,11 +1,11 @@
 -- The commands of the program, as `clap` sees them, and what its matches ask for.
-use Rattle.std.specs.Prelude.{◌≡◌, ◌≢◌, ◌++◌, [], List, codes, Some, true, map, option_to_list}
+use Rattle.std.specs.Prelude.{◌≡◌, ◌++◌, [], ◌∷◌, List, codes, Some, true, map, option_to_list}
 use Rattle.std.specs.List.{fold}
 use Rattle.clap.specs.Walk.{Row as Found, Rule, Text, first_of}
 use Rattle.clap.specs.Simple.{App, new_shape, new_rule, with_subcommand}
 use Rattle.clap.specs.declared.builder.action.ArgAction.TheVariants.{Set}
-use Rattle.centre_words.specs.Table.{Item, Row, file, count, choice, turns, seed, flips, input, table}
-use Rattle.centre_words.specs.Words.{IsChosen}
+use Rattle.centre_words.specs.Table.{Item, Row, file, count, choice, workers, turns, seed, flips, input, table}
+use Rattle.centre_words.specs.Words.{AllDiffer, IsChosen}
 use Rattle.centre_words.specs.declared.asked.Asked.{Asked}
 use Rattle.centre_words.specs.declared.asked.Asked.TheVariants as asked
 
@@ -58,9 +58,10 @@ abbrev pub AsksBy : Text → List Found → Asked → Type 0
 AsksBy command found (asked.Check instance) = (command ≡ codes "check") × (first_of (codes "instance") found ≡ Some instance)
 AsksBy command found (asked.Score instance solution) =
     (command ≡ codes "score") × (first_of (codes "instance") found ≡ Some instance) × (first_of (codes "solution") found ≡ Some solution)
-AsksBy command found (asked.Solve instance solution n_turns n_seed n_flips) =
+AsksBy command found (asked.Solve instance solution certificate n_workers n_turns n_seed n_flips) =
     (command ≡ codes "solve") × (first_of (codes "instance") found ≡ Some instance) × (first_of (codes "solution") found ≡ Some solution)
-    × (instance ≢ solution) × IsChosen turns (values_in found turns.name) (Some n_turns)
+    × (first_of (codes "certificate") found ≡ Some certificate) × AllDiffer (instance ∷ solution ∷ certificate ∷ [])
+    × IsChosen workers (values_in found workers.name) (Some n_workers) × IsChosen turns (values_in found turns.name) (Some n_turns)
     × IsChosen seed (values_in found seed.name) (Some n_seed) × IsChosen flips (values_in found flips.name) n_flips
 AsksBy command found (asked.Verify instance solution certificate) =
     (command ≡ codes "verify") × (first_of (codes "instance") found ≡ Some instance) × (first_of (codes "solution") found ≡ Some solution)

@@ -27,6 +27,9 @@ option_names (choice number ∷ items) = number.name ∷ option_names items
 abbrev pub options_of : Row → List (List ℕ)
 options_of row = option_names row.items
 
+abbrev pub workers : Number
+workers = record { name = codes "workers"; most = 0; usual = Some 0 }
+
 abbrev pub turns : Number
 turns = record { name = codes "turns"; most = 1000000; usual = Some 64 }
 
@@ -48,7 +51,7 @@ score_row = record { name = codes "score"; items = file (codes "instance") ∷ f
 abbrev pub solve_row : Row
 solve_row = record {
   name = codes "solve";
-  items = file (codes "instance") ∷ file (codes "solution") ∷ choice turns ∷ choice seed ∷ choice flips ∷ [];
+  items = file (codes "instance") ∷ file (codes "solution") ∷ file (codes "certificate") ∷ choice workers ∷ choice turns ∷ choice seed ∷ choice flips ∷ [];
 }
 
 abbrev pub verify_row : Row

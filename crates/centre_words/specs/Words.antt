@@ -1,10 +1,10 @@
 -- What the words of a command line ask for.
 use Rattle.std.specs.Prelude.{◌≡◌, ◌≢◌, ◌++◌, ℕ, ◌≤◌, true, List, [], ◌∷◌, Option, Some, None, length, codes, cond, map, string_bytes, String}
-use Rattle.std.specs.List.{All, list_any}
+use Rattle.std.specs.List.{All, AllPairs, list_any}
 use Rattle.std.specs.Str.{bytes_eq}
 use Rattle.std.specs.Str.Parse.{IsNumeral, digits_value}
 use Rattle.std.specs.declared.alloc.Global.{Global}
-use Rattle.centre_words.specs.Table.{Number, turns, seed, flips, input, options_of, solve_row}
+use Rattle.centre_words.specs.Table.{Number, workers, turns, seed, flips, input, options_of, solve_row}
 use Rattle.centre_words.specs.declared.asked.Asked.{Asked}
 use Rattle.centre_words.specs.declared.asked.Asked.TheVariants as asked
 
@@ -63,13 +63,18 @@ IsChosen number (value ∷ []) None = ⊥
 IsChosen number (value ∷ []) (Some n) = IsNumberUpTo number.most value n
 IsChosen number (value ∷ _ ∷ _) n = ⊥
 
--- the words are `solve`, two names that differ, and options with their values before, between and behind them
-pub record AsksSolve (words : List (List ℕ)) (instance solution : List ℕ) (n_turns n_seed : ℕ) (n_flips : Option ℕ) : Type 0 where
+-- no two of the names are equal
+unfoldable pub AllDiffer : List (List ℕ) → Type 0
+AllDiffer names = AllPairs ◌≢◌ names
+
+-- the words are `solve`, three names no two of which are equal, and options with their values before, between and behind them
+pub record AsksSolve (words : List (List ℕ)) (instance solution certificate : List ℕ) (n_workers n_turns n_seed : ℕ) (n_flips : Option ℕ) : Type 0 where
   pub pieces : List Piece
   pub spelled : words ≡ codes "solve" ∷ spelling pieces
   pub plain : All (IsPlainPiece (options_of solve_row)) pieces
-  pub names : names_of pieces ≡ instance ∷ solution ∷ []
-  pub differ : instance ≢ solution
+  pub names : names_of pieces ≡ instance ∷ solution ∷ certificate ∷ []
+  pub differ : AllDiffer (instance ∷ solution ∷ certificate ∷ [])
+  pub workers_is : IsChosen workers (values_of workers.name pieces) (Some n_workers)
   pub turns_is : IsChosen turns (values_of turns.name pieces) (Some n_turns)
   pub seed_is : IsChosen seed (values_of seed.name pieces) (Some n_seed)
   pub flips_is : IsChosen flips (values_of flips.name pieces) n_flips
@@ -78,7 +83,7 @@ pub record AsksSolve (words : List (List ℕ)) (instance solution : List ℕ) (n
 abbrev pub Asks : List (List ℕ) → Asked → Type 0
 Asks words (asked.Check instance) = (words ≡ codes "check" ∷ instance ∷ []) × IsPlain instance
 Asks words (asked.Score instance solution) = (words ≡ codes "score" ∷ instance ∷ solution ∷ []) × IsPlain instance × IsPlain solution
-Asks words (asked.Solve instance solution n_turns n_seed n_flips) = AsksSolve words instance solution n_turns n_seed n_flips
+Asks words (asked.Solve instance solution certificate n_workers n_turns n_seed n_flips) = AsksSolve words instance solution certificate n_workers n_turns n_seed n_flips
 Asks words (asked.Verify instance solution certificate) =
     (words ≡ codes "verify" ∷ instance ∷ solution ∷ certificate ∷ []) × IsPlain instance × IsPlain solution × IsPlain certificate
 Asks words (asked.Trace instance t) =

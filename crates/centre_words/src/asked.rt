@@ -17,10 +17,12 @@ pub enum Asked {
         instance: Name,
         solution: Name,
     },
-    /// A solution of an instance, which is written. The turns are those of improvers, which draw from the seed. No input is given more flips than the last number, where there is one.
+    /// A solution of an instance, and the certificate that shows its total and a bound; both are written. The workers are threads that work beside the caller; there are none yet, and the caller does all. The turns are those of improvers, which draw from the seed. No input is given more flips than the last number, where there is one.
     Solve {
         instance: Name,
         solution: Name,
+        certificate: Name,
+        workers: u32,
         turns: u32,
         seed: u64,
         flips: Option<u64>,

@@ -1,7 +1,7 @@
 // What the matches of a command ask for.
-ghost use Rattle.std.specs.Prelude.{◌≡◌, Some, None, IfOk, Err, ℕ, Option, codes, option_map};
+ghost use Rattle.std.specs.Prelude.{◌≡◌, ◌↔◌, IsTrue, [], ◌∷◌, Some, None, IfOk, Err, ℕ, Option, codes, option_map};
 ghost use Rattle.clap.specs.Words.{first_of, found_of, rows_of};
-ghost use Rattle.centre_words.specs.Words.{IsChosen};
+ghost use Rattle.centre_words.specs.Words.{AllDiffer, IsChosen};
 ghost use Rattle.centre_words.specs.Rows.{number_of};
 ghost use Rattle.centre_words.specs.Commands.{AsksBy, values_in};
 ghost use Rattle.centre_words.specs.declared.asked.Asked.{Asked};
@@ -9,7 +9,7 @@ ghost use Rattle.centre_words.specs.declared.asked.Asked.{Asked};
 use crate::asked::{Asked, WordsFault};
 use crate::name::Name;
 use crate::number::number_up_to;
-use crate::table::{FLIPS, INPUT, Number, SEED, TURNS};
+use crate::table::{FLIPS, INPUT, Number, SEED, TURNS, WORKERS};
 use clap::ArgMatches;
 use std::alloc::Global;
 
@@ -58,21 +58,32 @@ fn some_number_in(found: &ArgMatches<'_>, number: Number) -> Result<u64, WordsFa
     }
 }
 
+// Whether no two of the names are equal.
+fn all_differ(instance: &Name, solution: &Name, certificate: &Name) -> bool
+    ensures { IsTrue result ↔ AllDiffer (instance.now ∷ solution.now ∷ certificate.now ∷ []) }
+{
+    instance != solution && instance != certificate && solution != certificate
+}
+
 fn solve_by(alloc: Global, found: &ArgMatches<'_>) -> Result<Asked, WordsFault>
     ensures ok { IfOk result (AsksBy (codes "solve") (rows_of (found_of found.now))) }
     ensures words { result ≡ Err WordsFault.Words → (a : Asked) → ¬ AsksBy (codes "solve") (rows_of (found_of found.now)) a }
 {
     let instance = name_in(alloc, found, "instance")?;
     let solution = name_in(alloc, found, "solution")?;
-    if instance == solution {
+    let certificate = name_in(alloc, found, "certificate")?;
+    if !all_differ(&instance, &solution, &certificate) {
         return Err(WordsFault::Words);
     }
+    let workers = some_number_in(found, WORKERS)?;
     let turns = some_number_in(found, TURNS)?;
     let seed = some_number_in(found, SEED)?;
     let flips = number_in(found, FLIPS)?;
     Ok(Asked::Solve {
         instance,
         solution,
+        certificate,
+        workers: workers as u32,
         turns: turns as u32,
         seed,
         flips,

@@ -27,6 +27,13 @@ pub struct Row {
     pub items: &'static [Item],
 }
 
+// Threads beside the caller.
+pub const WORKERS: Number = Number {
+    name: "workers",
+    most: 0,
+    usual: Some(0),
+};
+
 pub const TURNS: Number = Number {
     name: "turns",
     most: 1_000_000,
@@ -67,6 +74,8 @@ static ROWS: [Row; 5] = [
         items: &[
             Item::File("instance"),
             Item::File("solution"),
+            Item::File("certificate"),
+            Item::Choice(WORKERS),
             Item::Choice(TURNS),
             Item::Choice(SEED),
             Item::Choice(FLIPS),
