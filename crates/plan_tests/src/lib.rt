@@ -1,8 +1,6 @@
-//! Tests of plans, of what improves them, and of the plans that are found.
+//! Tests of plans, and of what improves them.
 #![tactic(auto)]
 
-#[cfg(test)]
-mod found_plans;
 #[cfg(test)]
 mod improvers;
 #[cfg(test)]

@@ -1,0 +1,10 @@
+pub mod Bests
+pub mod Books
+pub mod ByPair
+pub mod Journals
+pub mod Legal
+pub mod Listing
+pub mod Shown
+pub mod Solved
+pub mod SoundRows
+pub mod Writable

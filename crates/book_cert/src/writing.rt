@@ -1,0 +1,46 @@
+// What is written for an instance: a solution and its certificate.
+ghost use Rattle.std.specs.Prelude.{◌≡◌, ◌≤◌, IfOk, IfErr};
+ghost use Rattle.lawson_start.specs.Starts.{IsStartFault};
+ghost use Rattle.plan_law.specs.Books.{IsBook};
+ghost use Rattle.book_core.specs.Entries.{IsJustifiedRow};
+ghost use Rattle.book_core.specs.HeldBooks.{book_of};
+ghost use Rattle.cert_text.specs.Certs.{IsWritable};
+ghost use Rattle.verify_core.specs.Faults.{IsShown};
+ghost use Rattle.book_cert.specs.Written.{IsWritten};
+
+use crate::{certificate_of, solution_of};
+use book_solve::{Order, solve_alone};
+use cert_text::Cert;
+use lawson_start::StartFault;
+use solution_json::Solution;
+use std::alloc::Global;
+use std::sync::Arc;
+use tri_check::Instance;
+
+/// A solution, and what shows its total and a bound.
+#[derive(Debug, Drop)]
+pub struct Written {
+    pub solution: Solution,
+    pub certificate: Cert,
+}
+
+/// The solution and the certificate that an order asks for, found on one thread. A verifier finds no fault in them.
+///
+/// The time is that of the turns, and the memory that of the book and its copy in the certificate.
+pub fn solve(alloc: Global, inst: Arc<Instance>, order: Order) -> Result<Written, StartFault>
+    requires { order.turns ≤ 1_000_000 }
+    ensures written { IfOk result (λ w. IsWritten inst.value order w.solution w.certificate) }
+    ensures shown { IfOk result (λ w. IsShown inst.value w.solution w.certificate) }
+    ensures writable { IfOk result (λ w. IsWritable w.certificate) }
+    ensures err { IfErr result (IsStartFault inst.value.points inst.value.inputs order.flips) }
+{
+    let _ = inst.count();
+    let book = solve_alone(alloc, inst, order)?;
+    let _ = book.bound();
+    let solution = solution_of(alloc, &book)?;
+    let certificate = certificate_of(alloc, &book)?;
+    Ok(Written {
+        solution,
+        certificate,
+    })
+}

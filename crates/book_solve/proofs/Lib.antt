@@ -1,0 +1,7 @@
+pub mod Opened
+pub mod Determined
+pub mod Finished
+pub mod Lines
+pub mod Numbers
+pub mod Rows
+pub mod Turns

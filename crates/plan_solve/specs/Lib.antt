@@ -1,2 +1,0 @@
-pub mod Solves
-pub mod Laws
