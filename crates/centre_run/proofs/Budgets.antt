@@ -11,8 +11,9 @@ use Rattle.lawson_law.proofs.Proved.{runs_exist, runs_have_lengths, runs_are_sho
 use Rattle.centre_words.specs.declared.asked.Asked.{Asked}
 use Rattle.centre_words.specs.declared.asked.Asked.TheVariants.{Check, Score, Solve, Verify, Trace}
 use Rattle.centre_words.specs.Words.{Asks}
-use Rattle.centre_run.specs.declared.status.Status.{Status}
 use Rattle.centre_run.specs.declared.status.Status.TheVariants.{FlipBudget, Refused, Words, ReadFault}
+use Rattle.centre_run.specs.declared.solving.SolveOptions.{SolveOptions}
+use Rattle.centre_run.specs.declared.solving.Texts.{Texts}
 use Rattle.centre_run.specs.Orders.{pairs_of, flips_allowed}
 use Rattle.centre_run.specs.Runs.{MayHold, SpellsInstance, ScoreSays, SolveSays, VerifySays, TraceSays, Files, CommandSays, Says, Does, AllowsFewFlips}
 
@@ -60,18 +61,19 @@ trace_never bytes t line (inr (instance, spells, says)) = says
 abbrev IsShort : List ℕ → Option ℕ → Type 0
 IsShort bytes flips = (instance : Problem) × SpellsInstance bytes instance × (flips_allowed instance flips < pairs_of (length instance.points))
 
-solve_short : (bytes : List ℕ) (turns seed : ℕ) (flips : Option ℕ) (line : List ℕ) (text : Option (List ℕ)) → SolveSays bytes (record { turns = turns; seed = seed; flips = flips }) FlipBudget line text → IsShort bytes flips
-solve_short bytes turns seed flips line text (inl (refused, names, none)) = absurd (not_refused refused)
-solve_short bytes turns seed flips line text (inr (instance, spells, (t, over, told, none))) = (instance, spells, few_flips instance (flips_allowed instance flips) t spells.problem over)
+solve_short : (bytes : List ℕ) (options : SolveOptions) (line : List ℕ) (texts : Option Texts) → SolveSays bytes options FlipBudget line texts → IsShort bytes options.flips
+solve_short bytes options line texts (inl (refused, names, none)) = absurd (not_refused refused)
+solve_short bytes options line texts (inr (instance, spells, (t, over, told, none))) = (instance, spells, few_flips instance (flips_allowed instance options.flips) t spells.problem over)
 
-solve_few : (words : List (List ℕ)) (held : Option Held) (i target : List ℕ) (turns seed : ℕ) (flips : Option ℕ) (bytes : List ℕ) → Asks words (Solve i target turns seed flips) → MayHold held i bytes → IsShort bytes flips → AllowsFewFlips words held
-solve_few words held i target turns seed None bytes asks there (instance, spells, less) = absurd (not_less (pairs_of (length instance.points)) less)
-solve_few words held i target turns seed (Some flips) bytes asks there (instance, spells, less) = (i, target, turns, seed, flips, bytes, instance, asks, there, spells, less)
+solve_few : (words : List (List ℕ)) (held : Option Held) (i target certificate : List ℕ) (workers turns seed : ℕ) (flips : Option ℕ) (bytes : List ℕ) → Asks words (Solve i target certificate workers turns seed flips) → MayHold held i bytes → IsShort bytes flips → AllowsFewFlips words held
+solve_few words held i target certificate workers turns seed None bytes asks there (instance, spells, less) = absurd (not_less (pairs_of (length instance.points)) less)
+solve_few words held i target certificate workers turns seed (Some flips) bytes asks there (instance, spells, less) = (i, target, certificate, workers, turns, seed, flips, bytes, instance, asks, there, spells, less)
 
 few_asked : (words : List (List ℕ)) (held : Option Held) (c : Asked) (line : List ℕ) (files : Files) → Asks words c → CommandSays held c FlipBudget line files → AllowsFewFlips words held
 few_asked words held (Check i) line files asks (bytes, there, says, none) = absurd says
 few_asked words held (Score i s) line files asks (bytes, others, there, here, says, none) = absurd (score_never bytes others line says)
-few_asked words held (Solve i target turns seed flips) line files asks (bytes, text, there, says, is) = solve_few words held i target turns seed flips bytes asks there (solve_short bytes turns seed flips line text says)
+few_asked words held (Solve i target certificate workers turns seed flips) line files asks (bytes, texts, there, says, is) =
+    solve_few words held i target certificate workers turns seed flips bytes asks there (solve_short bytes (record { workers = workers; turns = turns; seed = seed; flips = flips }) line texts says)
 few_asked words held (Verify i s c) line files asks (bytes, others, last, there, here, along, says, none) = absurd (verify_never bytes others last line says)
 few_asked words held (Trace i t) line files asks (bytes, there, says, none) = absurd (trace_never bytes t line says)
 

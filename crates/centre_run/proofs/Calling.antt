@@ -1,5 +1,5 @@
 -- How often commands call the store.
-use Rattle.std.proofs.Common.{◌≡◌, subst, sym, ℕ, List, [], ◌∷◌, Option, inl, inr}
+use Rattle.std.proofs.Common.{◌≡◌, ◌⊎◌, subst, sym, ℕ, List, [], ◌∷◌, Option, inl, inr, arith}
 use Rattle.host_io.specs.Store.{Held, one_more}
 use Rattle.centre_run.specs.declared.status.Status.{Status}
 use Rattle.centre_run.specs.declared.status.Status.TheVariants.{Done, Words, Refused, FlipBudget, Memory, ReadFault, WriteFault, No}
@@ -8,13 +8,14 @@ use Rattle.centre_words.specs.declared.asked.Asked.TheVariants.{Check, Score, So
 use Rattle.centre_words.specs.Words.{Asks}
 use Rattle.centre_words.proofs.Meets.{words_ask_once}
 use Rattle.centre_run.specs.declared.solving.SolveOptions.{SolveOptions}
-use Rattle.plan_solve.specs.declared.order.Order.{Order}
+use Rattle.centre_run.specs.declared.solving.Texts.{Texts}
+use Rattle.book_solve.specs.declared.order.Order.{Order}
 use Rattle.solution_json.specs.declared.solution.Solution.{Solution}
 use Rattle.tri_check.specs.Problems.{Problem}
 use Rattle.centre_run.specs.Orders.{order_of}
 use Rattle.cert_text.specs.declared.cert.Cert.{Cert}
 use Rattle.centre_run.specs.Runs.{ScoreSays, SolveSays, VerifySays, RunSays, OrderSays, SolutionSays, CertificateSays, CommandDoes}
-use Rattle.centre_run.specs.Calls.{after_calling, after_writing, CallsFor, CommandCalls}
+use Rattle.centre_run.specs.Calls.{after_calling, after_writing, CallsFor, StopsWriting, CommandCalls}
 
 -- what holds of the command that words ask for holds of any
 pub of_asked : (words : List (List ℕ)) (P : Asked → Type 0) (c : Asked) → Asks words c → P c → (d : Asked) → Asks words d → P d
@@ -47,23 +48,28 @@ score_calls bytes others first second status line before now (inl (refused, name
 score_calls bytes others first second status line before now (inr (instance, solution, spells, lists, says)) is =
     scored_calls instance solution (Score first second) status line before now says is is
 
-ordered_calls : (instance : Problem) (order : Order) (name target : List ℕ) (options : SolveOptions) (status : Status) (line : List ℕ) (text : Option (List ℕ)) (before now : ℕ) → OrderSays instance order status line text
-    → now ≡ after_writing text (one_more before) → CallsFor (Solve name target options.turns options.seed options.flips) status before now
-ordered_calls instance order name target options Done line text before now (solution, found, told, is) calls = subst (λ t. now ≡ after_writing t (one_more before)) is calls
-ordered_calls instance order name target options FlipBudget line text before now (t, over, told, is) calls = subst (λ t. now ≡ after_writing t (one_more before)) is calls
-ordered_calls instance order name target options Refused line text before now says calls = absurd says
-ordered_calls instance order name target options Words line text before now says calls = absurd says
-ordered_calls instance order name target options Memory line text before now says calls = absurd says
-ordered_calls instance order name target options ReadFault line text before now says calls = absurd says
-ordered_calls instance order name target options WriteFault line text before now says calls = absurd says
-ordered_calls instance order name target options No line text before now says calls = absurd says
+module _ (name target certificate : List ℕ) (options : SolveOptions) where
+  abbrev pub asked_solve : Asked
+  asked_solve = Solve name target certificate options.workers options.turns options.seed options.flips
 
-pub solve_calls : (bytes name target : List ℕ) (options : SolveOptions) (status : Status) (line : List ℕ) (text : Option (List ℕ)) (before now : ℕ) → SolveSays bytes options status line text
-    → now ≡ after_writing text (one_more before) → CallsFor (Solve name target options.turns options.seed options.flips) status before now
-solve_calls bytes name target options status line text before now (inl (refused, names, none)) calls =
-    subst (λ s. CallsFor (Solve name target options.turns options.seed options.flips) s before now) (sym refused) (subst (λ t. now ≡ after_writing t (one_more before)) none calls)
-solve_calls bytes name target options status line text before now (inr (instance, spells, says)) calls =
-    ordered_calls instance (order_of instance options) name target options status line text before now says calls
+  ordered_calls : (instance : Problem) (order : Order) (status : Status) (line : List ℕ) (texts : Option Texts) (before now : ℕ) → OrderSays instance order status line texts → now ≡ after_writing texts (one_more before) → CallsFor asked_solve status before now
+  ordered_calls instance order Done line texts before now (solution, cert, found, told, is) calls = subst (λ t. now ≡ after_writing t (one_more before)) is calls
+  ordered_calls instance order FlipBudget line texts before now (t, over, told, is) calls = subst (λ t. now ≡ after_writing t (one_more before)) is calls
+  ordered_calls instance order Refused line texts before now says calls = absurd says
+  ordered_calls instance order Words line texts before now says calls = absurd says
+  ordered_calls instance order Memory line texts before now says calls = absurd says
+  ordered_calls instance order ReadFault line texts before now says calls = absurd says
+  ordered_calls instance order WriteFault line texts before now says calls = absurd says
+  ordered_calls instance order No line texts before now says calls = absurd says
+
+  pub solve_calls : (bytes : List ℕ) (status : Status) (line : List ℕ) (texts : Option Texts) (before now : ℕ) → SolveSays bytes options status line texts → now ≡ after_writing texts (one_more before) → CallsFor asked_solve status before now
+  solve_calls bytes status line texts before now (inl (refused, names, none)) calls = subst (λ s. CallsFor asked_solve s before now) (sym refused) (subst (λ t. now ≡ after_writing t (one_more before)) none calls)
+  solve_calls bytes status line texts before now (inr (instance, spells, says)) calls = ordered_calls instance (order_of instance options) status line texts before now says calls
+
+  -- the calls up to a write that failed, of the solution or of the certificate
+  pub solve_stops : (before now : ℕ) → (now ≡ one_more (one_more before)) ⊎ (now ≡ one_more (one_more (one_more before))) → StopsWriting asked_solve before now
+  solve_stops before now (inl first) = (1, omega arith, omega arith, first)
+  solve_stops before now (inr second) = (2, omega arith, omega arith, second)
 
 certified_calls : (instance : Problem) (solution : Solution) (cert : Cert) (c : Asked) (status : Status) (line : List ℕ) (before now : ℕ) → CertificateSays instance solution cert status line → CallsFor c Done before now → CallsFor c No before now → CallsFor c status before now
 certified_calls instance solution cert c Done line before now says done refusal = done

@@ -4,3 +4,4 @@ mod Once
 mod Found
 mod Saying
 mod Shown
+mod Writes

@@ -35,8 +35,9 @@ use Rattle.verify_core.specs.declared.fault.No as no
 use Rattle.verify_core.specs.declared.fault.VerifyFault.TheVariants as verify
 use Rattle.verify_core.specs.Faults.{IsShown, OnNo}
 use Rattle.verify_core.proofs.Clear.{shown_clear}
-use Rattle.plan_solve.specs.declared.order.Order.{Order}
+use Rattle.book_solve.specs.declared.order.Order.{Order}
 use Rattle.centre_run.specs.declared.solving.SolveOptions.{SolveOptions}
+use Rattle.centre_run.specs.declared.solving.Texts.{Texts}
 use Rattle.centre_run.specs.Orders.{order_of}
 use Rattle.centre_run.specs.Runs.{SpellsValid, NamesInstanceFault, SpellsInstance, SpellsSolution, IsSolved, NamesScoreFault, NamesFileFault, NamesVerifyFault, SolutionSays, CertificateSays, CheckSays, ScoreSays, OrderSays, SolveSays, VerifySays, RunSays, TraceSays, Files, CommandSays, LacksFile, files_of, Says, HasReadCause}
 
@@ -155,26 +156,26 @@ module _ (bytes others : List ℕ) where
 abbrev pub IsTooLong : Problem → ℕ → Type 0
 IsTooLong i flips = (t : ℕ) × IsOverBudget i.points i.inputs flips t
 
-order_kind : (i : Problem) (o : Order) (s : Status) (k : List ℕ) (text : Option (List ℕ)) → OrderSays i o s k text → ((s ≡ Done) × AreWithin i.points i.inputs o.flips) ⊎ ((s ≡ FlipBudget) × IsTooLong i o.flips)
-order_kind i o Done k text (x, is, line, file) = inl (refl, is.found.opens.within)
-order_kind i o FlipBudget k text (t, over, line, file) = inr (refl, (t, over))
-order_kind i o Words k text a = absurd a
-order_kind i o Refused k text a = absurd a
-order_kind i o Memory k text a = absurd a
-order_kind i o ReadFault k text a = absurd a
-order_kind i o WriteFault k text a = absurd a
-order_kind i o No k text a = absurd a
+order_kind : (i : Problem) (o : Order) (s : Status) (k : List ℕ) (texts : Option Texts) → OrderSays i o s k texts → ((s ≡ Done) × AreWithin i.points i.inputs o.flips) ⊎ ((s ≡ FlipBudget) × IsTooLong i o.flips)
+order_kind i o Done k texts (x, c, is, line, file) = inl (refl, is.written.opens.within)
+order_kind i o FlipBudget k texts (t, over, line, file) = inr (refl, (t, over))
+order_kind i o Words k texts a = absurd a
+order_kind i o Refused k texts a = absurd a
+order_kind i o Memory k texts a = absurd a
+order_kind i o ReadFault k texts a = absurd a
+order_kind i o WriteFault k texts a = absurd a
+order_kind i o No k texts a = absurd a
 
 within_budget : (i : Problem) (n : ℕ) → AreWithin i.points i.inputs n → IsTooLong i n → ⊥
 within_budget i n within (t, over) = holds_at (λ input. ¬ IsLawsonRunLonger i.points input n) i.inputs t over.input within over.there over.longer
 
-order_once : (i : Problem) (o : Order) (s t : Status) (k l : List ℕ) (f g : Option (List ℕ)) → OrderSays i o s k f → OrderSays i o t l g → s ≡ t
+order_once : (i : Problem) (o : Order) (s t : Status) (k l : List ℕ) (f g : Option Texts) → OrderSays i o s k f → OrderSays i o t l g → s ≡ t
 order_once i o s t k l f g says told =
     one_of_two s t Done FlipBudget (AreWithin i.points i.inputs o.flips) (IsTooLong i o.flips) (AreWithin i.points i.inputs o.flips) (IsTooLong i o.flips)
     (within_budget i o.flips) (within_budget i o.flips) (order_kind i o s k f says) (order_kind i o t l g told)
 
 module _ (bytes : List ℕ) (options : SolveOptions) where
-  solve_once : (s t : Status) (k l : List ℕ) (f g : Option (List ℕ)) → SolveSays bytes options s k f → SolveSays bytes options t l g → s ≡ t
+  solve_once : (s t : Status) (k l : List ℕ) (f g : Option Texts) → SolveSays bytes options s k f → SolveSays bytes options t l g → s ≡ t
   solve_once s t k l f g (inl (d, p, none)) (inl (e, q, empty)) = d ∙ sym e
   solve_once s t k l f g (inl (d, p, none)) (inr (i, a, says)) = absurd (valid_faultless bytes a.raw k a.valid p)
   solve_once s t k l f g (inr (i, a, says)) (inl (e, q, empty)) = absurd (valid_faultless bytes a.raw l a.valid q)
@@ -240,9 +241,9 @@ module _ (held : Held) where
   command_once (Score first second) s t k l f g (bytes, others, there, here, says, none) (bs, os, with_first, with_second, told, empty) =
       score_once bytes others s t k l says
       (same_file (λ b. ScoreSays b others t l) first bytes bs there with_first (same_file (λ o. ScoreSays bs o t l) second others os here with_second told))
-  command_once (Solve name target turns seed flips) s t k l f g (bytes, text, there, says, file) (others, other, here, told, same) =
-      let options : SolveOptions = record { turns = turns; seed = seed; flips = flips } in
-      solve_once bytes options s t k l text other says (same_file (λ b. SolveSays b options t l other) name bytes others there here told)
+  command_once (Solve name target certificate workers turns seed flips) s t k l f g (bytes, texts, there, says, file) (others, other, here, told, same) =
+      let options : SolveOptions = record { workers = workers; turns = turns; seed = seed; flips = flips } in
+      solve_once bytes options s t k l texts other says (same_file (λ b. SolveSays b options t l other) name bytes others there here told)
   command_once (Verify first second third) s t k l f g (bytes, others, last, there, here, along, says, none) (bs, os, ls, with_first, with_second, with_third, told, empty) =
       verify_once bytes others last s t k l says
       (same_file (λ b. VerifySays b others last t l) first bytes bs there with_first
@@ -255,7 +256,7 @@ module _ (held : Held) where
   command_reads (Check name) s k f (bytes, there, says, none) lacks = held_there held name bytes there lacks
   command_reads (Score first second) s k f (bytes, others, there, here, says, none) (inl lacks) = held_there held first bytes there lacks
   command_reads (Score first second) s k f (bytes, others, there, here, says, none) (inr lacks) = held_there held second others here lacks
-  command_reads (Solve name target turns seed flips) s k f (bytes, text, there, says, file) lacks = held_there held name bytes there lacks
+  command_reads (Solve name target certificate workers turns seed flips) s k f (bytes, text, there, says, file) lacks = held_there held name bytes there lacks
   command_reads (Verify first second third) s k f (bytes, others, last, there, here, along, says, none) (inl lacks) = held_there held first bytes there lacks
   command_reads (Verify first second third) s k f (bytes, others, last, there, here, along, says, none) (inr (inl lacks)) = held_there held second others here lacks
   command_reads (Verify first second third) s k f (bytes, others, last, there, here, along, says, none) (inr (inr lacks)) = held_there held third last along lacks

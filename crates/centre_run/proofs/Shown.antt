@@ -19,10 +19,10 @@ use Rattle.centre_run.specs.declared.reply.Quiet.{Quiet}
 use Rattle.centre_run.specs.declared.reply.Reply.{Reply}
 use Rattle.centre_run.specs.declared.status.Status.{Status}
 use Rattle.centre_run.specs.declared.status.Status.TheVariants.{Done}
-use Rattle.centre_run.specs.VerifyLines.{yes_line}
-use Rattle.centre_run.specs.Runs.{IsSolved, IsProved, RawSays, CertificateSays, VerifySays}
+use Rattle.printed_lines.specs.VerifyLines.{yes_line}
+use Rattle.centre_run.specs.Runs.{IsSolved, RawSays, CertificateSays, VerifySays}
 
-shown_solved : (i : Problem) (s : Solution) (c : Cert) → IsShown i s c → IsSolved i s
+pub shown_solved : (i : Problem) (s : Solution) (c : Cert) → IsShown i s c → IsSolved i s
 shown_solved i s c (frame, V) = record { uid = V.solution_uid; centre = V.centre; plan = V.plan; distinct = V.distinct }
 
 pub shown_says : (i : Problem) (s : Solution) (c : Cert) (proved bound : ℕ) (status : Status) (line : List ℕ) → IsShown i s c → proved ≡ total i.weights s.lists → proved ≡ c.total → bound ≡ c.bound

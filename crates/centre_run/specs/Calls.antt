@@ -1,6 +1,7 @@
 -- How often a run calls the store, and for which names.
-use Rattle.std.specs.Prelude.{◌≡◌, ◌⊎◌, ℕ, ◌+◌, ◌≤◌, List, [], ◌∷◌, ◌++◌, Option, Some, None}
+use Rattle.std.specs.Prelude.{◌≡◌, ◌⊎◌, ℕ, ◌+◌, ◌≤◌, List, [], ◌∷◌, ◌++◌, length, take, Option, Some, None}
 use Rattle.host_io.specs.Store.{Held, one_more}
+use Rattle.centre_run.specs.declared.solving.Texts.{Texts}
 use Rattle.centre_run.specs.declared.status.Status.{Status}
 use Rattle.centre_run.specs.declared.status.Status.TheVariants.{Done, Refused, FlipBudget, Memory, ReadFault, WriteFault, No}
 use Rattle.centre_words.specs.declared.asked.Asked.{Asked}
@@ -12,7 +13,7 @@ use Rattle.centre_run.specs.Runs.{MayHold, IsUnheld, files_of, written_by}
 abbrev pub read_by : Asked → List (List ℕ)
 read_by (Check instance) = instance ∷ []
 read_by (Score instance solution) = instance ∷ solution ∷ []
-read_by (Solve instance solution turns seed flips) = instance ∷ []
+read_by (Solve instance solution certificate workers turns seed flips) = instance ∷ []
 read_by (Verify instance solution certificate) = instance ∷ solution ∷ certificate ∷ []
 read_by (Trace instance t) = instance ∷ []
 
@@ -36,18 +37,22 @@ CallsFor c FlipBudget before now = now ≡ after_calling (read_by c) before
 CallsFor c No before now = now ≡ after_calling (read_by c) before
 CallsFor c _ before now = ⊥
 
--- the calls of a command that ends with this status. A fault of writing comes in place of another status, and want of memory at any time
+-- the store was called for all names that the command reads, and for the first of those that it writes, up to one that couldn't be written
+abbrev pub StopsWriting : Asked → ℕ → ℕ → Type 0
+StopsWriting c before now = (n : ℕ) × (1 ≤ n) × (n ≤ length (written_by c)) × (now ≡ after_calling (read_by c ++ take n (written_by c)) before)
+
+-- the calls of a command that ends with this status. A fault of the sink comes in place of another status, one of writing in place of the rest, and want of memory at any time
 abbrev pub CommandCalls : Option Held → Type 0 → Asked → Status → ℕ → ℕ → Type 0
 CommandCalls held Failed c Memory before now = now ≤ before + files_of c
 CommandCalls held Failed c ReadFault before now = StopsReading held Failed (read_by c) before now
-CommandCalls held Failed c WriteFault before now = (status : Status) × CallsFor c status before now
+CommandCalls held Failed c WriteFault before now = ((status : Status) × CallsFor c status before now) ⊎ StopsWriting c before now
 CommandCalls held Failed c status before now = CallsFor c status before now
 
 -- the calls of the command that the words ask for, if they ask for one
 abbrev pub CallsInOrder : List (List ℕ) → Option Held → Type 0 → Status → ℕ → ℕ → Type 0
 CallsInOrder words held Failed status before now = (c : Asked) → Asks words c → CommandCalls held Failed c status before now
 
--- a count of calls after the text was written, if there is one
-abbrev pub after_writing : Option (List ℕ) → ℕ → ℕ
+-- a count of calls after the texts were written, if there are some
+abbrev pub after_writing : Option Texts → ℕ → ℕ
 after_writing None n = n
-after_writing (Some text) n = one_more n
+after_writing (Some texts) n = one_more (one_more n)

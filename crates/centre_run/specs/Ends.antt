@@ -4,7 +4,7 @@ use Rattle.host_io.specs.Store.{Held, Rose}
 use Rattle.centre_run.specs.declared.status.Status.{Status}
 use Rattle.centre_run.specs.declared.status.Status.TheVariants.{Done, Words, Refused, FlipBudget, Memory, ReadFault, WriteFault, No}
 use Rattle.centre_words.specs.Words.{IsUnasked}
-use Rattle.centre_run.specs.Runs.{KeepsOthers, IsReadOnly, HasReadCause, CallsOnce, IsFaultless, Completes, Tells, TellsPart, AsksToVerify, AllowsFewFlips}
+use Rattle.centre_run.specs.Runs.{Begins, KeepsOthers, IsReadOnly, HasReadCause, CallsOnce, IsFaultless, Completes, Tells, TellsPart, AsksToVerify, AllowsFewFlips, WritesReplayableBook, WritesSettledPlan, WritesBestAssignment, WritesAnswersThenSettling, WritesTurnsInOrder, WritesProvedBound, WritesWhatVerifies}
 use Rattle.centre_run.specs.Calls.{CallsInOrder}
 
 -- what is known of a store at one time
@@ -28,7 +28,14 @@ pub record IsEnd (words : List (List ℕ)) (old new : StoreSeen) (before now : S
   pub budget_is_short : status ≡ FlipBudget → AllowsFewFlips words old.held
   pub no : status ≡ No → Tells words old.held new.held No before.told now.told
   pub no_by_verify : status ≡ No → AsksToVerify words
-  pub memory : status ≡ Memory → (now.told ≡ before.told) × (new.held ≡ old.held)
+  pub replayable_book : status ≡ Done → WritesReplayableBook words old.held new.held
+  pub settled : status ≡ Done → WritesSettledPlan words old.held new.held
+  pub best_assignment : status ≡ Done → WritesBestAssignment words old.held new.held
+  pub answers_then_settling : status ≡ Done → WritesAnswersThenSettling words old.held new.held
+  pub turns_in_order : status ≡ Done → WritesTurnsInOrder words old.held new.held
+  pub bound_below_plans : status ≡ Done → WritesProvedBound words old.held new.held
+  pub verifies : status ≡ Done → WritesWhatVerifies words new.held before.told now.told
+  pub memory : status ≡ Memory → (now.told ≡ before.told) × Begins words old.held new.held
   pub read_fault : status ≡ ReadFault → HasReadCause words old.held old.read_faults new.read_faults
   pub read_fault_kept : status ≡ ReadFault → (now.told ≡ before.told) × (new.held ≡ old.held)
   pub write_fault : status ≡ WriteFault → Rose old.write_faults new.write_faults ⊎ Rose before.faults now.faults

@@ -1,7 +1,5 @@
 pub mod Calls
 pub mod Ends
-pub mod Lines
 pub mod Orders
 pub mod Runs
 pub mod Statuses
-pub mod VerifyLines

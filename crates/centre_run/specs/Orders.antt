@@ -1,7 +1,7 @@
 -- What the options of `solve` ask of the solver.
 use Rattle.std.specs.Prelude.{ℕ, ◌*◌, ◌-◌, ◌/◌, Option, Some, None, length}
 use Rattle.tri_check.specs.Problems.{Problem}
-use Rattle.plan_solve.specs.declared.order.Order.{Order}
+use Rattle.book_solve.specs.declared.order.Order.{Order}
 use Rattle.centre_run.specs.declared.solving.SolveOptions.{SolveOptions}
 
 -- how many pairs n things make

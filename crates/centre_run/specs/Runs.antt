@@ -26,19 +26,23 @@ use Rattle.centre_run.specs.declared.status.Status.TheVariants.{Done, Words, Ref
 use Rattle.centre_words.specs.declared.asked.Asked.{Asked}
 use Rattle.centre_words.specs.declared.asked.Asked.TheVariants.{Check, Score, Solve, Verify, Trace}
 use Rattle.centre_words.specs.Words.{Asks, IsUnasked}
-use Rattle.centre_run.specs.Lines.{words_line, valid_line, bad_line, form_line, total_line, solution_form_line, other_uid_line, score_fault_line, solved_line, budget_line, flips_line, no_such_input_line}
-use Rattle.centre_run.specs.VerifyLines.{cert_form_line, yes_line, no_line}
+use Rattle.printed_lines.specs.Lines.{words_line, valid_line, bad_line, form_line, total_line, solution_form_line, other_uid_line, score_fault_line, solved_line, budget_line, flips_line, no_such_input_line}
+use Rattle.printed_lines.specs.VerifyLines.{cert_form_line, yes_line, no_line}
 use Rattle.line_text.specs.declared.fault.TextFault.{TextFault}
 use Rattle.cert_text.specs.declared.cert.Cert.{Cert}
 use Rattle.cert_text.specs.Forms as cert_form
+use Rattle.cert_text.specs.Texts.{cert_text}
 use Rattle.verify_core.specs.declared.fault.No as no
 use Rattle.verify_core.specs.declared.fault.VerifyFault.TheVariants as verify
 use Rattle.verify_core.specs.Faults.{IsShown, OnNo}
 use Rattle.lawson_start.specs.Starts.{IsOverBudget, IsWholeRun}
-use Rattle.plan_law.specs.Plans.{Plan, schedules}
-use Rattle.plan_solve.specs.declared.order.Order.{Order}
-use Rattle.plan_solve.specs.Solves.{IsFoundPlan}
+use Rattle.book_solve.specs.declared.order.Order.{Order}
+use Rattle.plan_law.specs.Plans.{IsSettled}
+use Rattle.plan_law.specs.Solving.{AreLinesInOrder}
+use Rattle.book_solve.specs.Solved.{log_budget, turns_for}
+use Rattle.book_cert.specs.Written.{IsWritten, IsReplayable, HasBestAssignment, AreAnswersThenSettling}
 use Rattle.centre_run.specs.declared.solving.SolveOptions.{SolveOptions}
+use Rattle.centre_run.specs.declared.solving.Texts.{Texts}
 use Rattle.centre_run.specs.Orders.{pairs_of, order_of}
 
 -- ---- the files
@@ -110,14 +114,6 @@ NamesFileFault bytes others line =
     ⊎ (((form : SolForm) × HasForm bytes × IsFirstSolFault others form × (line ≡ solution_form_line form))
     ⊎ ((raw : RawInstance) × (bad : Bad) × solution_fault.HasForm others × Spells bytes raw × IsFirstFault raw.points raw.inputs raw.weights bad × (line ≡ bad_line bad)))
 
--- the solution that `solve` writes: the schedules of the plan that is found. It is one that `score` accepts, and what its text spells
-pub record IsFound (instance : Problem) (order : Order) (solution : Solution) : Type 0 where
-  pub plan : Plan
-  pub found : IsFoundPlan instance order plan
-  pub lists : solution.lists ≡ schedules plan
-  pub solved : IsSolved instance solution
-  pub written : SpellsSolution (text_of solution) solution
-
 -- ---- certificates
 
 -- the line names the first fault of the bytes as a certificate, and they spell none
@@ -129,6 +125,14 @@ pub record IsProved (instance : Problem) (solution : Solution) (proved bound : �
   pub solved : IsSolved instance solution
   pub reached : proved ≡ total instance.weights solution.lists
   pub least : (centre : List Edge) (schedules : List (List (List Edge))) → IsPlan instance.points instance.inputs centre schedules → bound ≤ total instance.weights schedules
+
+-- a solution and a certificate that `solve` finds for an instance: they are those of a solved book, the total and the bound are proved, a verifier finds no fault in them, and each is what its text spells
+pub record AreFound (instance : Problem) (order : Order) (solution : Solution) (cert : Cert) : Type 0 where
+  pub written : IsWritten instance order solution cert
+  pub proved : IsProved instance solution cert.total cert.bound
+  pub shown : IsShown instance solution cert
+  pub solution_text : SpellsSolution (text_of solution) solution
+  pub certificate_text : cert_form.Spells (cert_text cert) cert
 
 -- what a certificate says of a solution of the instance: its total and its bound, which it shows and which are proved, or the first fault
 abbrev pub CertificateSays : Problem → Solution → Cert → Status → List ℕ → Type 0
@@ -158,17 +162,18 @@ ScoreSays bytes others status line =
     ((status ≡ Refused) × NamesFileFault bytes others line)
     ⊎ ((instance : Problem) × (solution : Solution) × SpellsInstance bytes instance × SpellsSolution others solution × SolutionSays instance solution status line)
 
--- what `solve` says of an instance, and the text that it writes, if one: a solution with its total, or the first input whose run is longer than is allowed
-abbrev pub OrderSays : Problem → Order → Status → List ℕ → Option (List ℕ) → Type 0
-OrderSays instance order Done line text = (solution : Solution) × IsFound instance order solution × (line ≡ solved_line (total instance.weights solution.lists) 0) × (text ≡ Some (text_of solution))
-OrderSays instance order FlipBudget line text = (t : ℕ) × IsOverBudget instance.points instance.inputs order.flips t × (line ≡ budget_line t) × (text ≡ None)
-OrderSays instance order _ line text = ⊥
+-- what `solve` says of an instance, and the texts that it writes, if some: a solution and its certificate, with the total and the bound, or the first input whose run is longer than is allowed
+abbrev pub OrderSays : Problem → Order → Status → List ℕ → Option Texts → Type 0
+OrderSays instance order Done line texts =
+    (solution : Solution) × (cert : Cert) × AreFound instance order solution cert × (line ≡ solved_line cert.total cert.bound) × (texts ≡ Some (record { solution = text_of solution; certificate = cert_text cert }))
+OrderSays instance order FlipBudget line texts = (t : ℕ) × IsOverBudget instance.points instance.inputs order.flips t × (line ≡ budget_line t) × (texts ≡ None)
+OrderSays instance order _ line texts = ⊥
 
 -- what `solve` says of the bytes of a file: their first fault, or what it says of the instance that they spell
-abbrev pub SolveSays : List ℕ → SolveOptions → Status → List ℕ → Option (List ℕ) → Type 0
-SolveSays bytes options status line text =
-    ((status ≡ Refused) × NamesInstanceFault bytes line × (text ≡ None))
-    ⊎ ((instance : Problem) × SpellsInstance bytes instance × OrderSays instance (order_of instance options) status line text)
+abbrev pub SolveSays : List ℕ → SolveOptions → Status → List ℕ → Option Texts → Type 0
+SolveSays bytes options status line texts =
+    ((status ≡ Refused) × NamesInstanceFault bytes line × (texts ≡ None))
+    ⊎ ((instance : Problem) × SpellsInstance bytes instance × OrderSays instance (order_of instance options) status line texts)
 
 -- what `verify` says of the bytes of three files: the first fault of one of them, or what the certificate says
 abbrev pub VerifySays : List ℕ → List ℕ → List ℕ → Status → List ℕ → Type 0
@@ -192,18 +197,18 @@ TraceSays bytes t status line =
 abbrev pub Files : Type 0
 Files = List (List ℕ × List ℕ)
 
--- the text under the name, where there is one
-abbrev pub file_under : List ℕ → Option (List ℕ) → Files
-file_under name None = []
-file_under name (Some text) = (name, text) ∷ []
+-- the two texts under the two names, in this order, where there are some
+abbrev pub files_under : List ℕ → List ℕ → Option Texts → Files
+files_under solution certificate None = []
+files_under solution certificate (Some texts) = (solution, texts.solution) ∷ (certificate, texts.certificate) ∷ []
 
 -- what a command says of the files, and the files that it writes
 abbrev pub CommandSays : Option Held → Asked → Status → List ℕ → Files → Type 0
 CommandSays held (Check instance) status line files = (bytes : List ℕ) × MayHold held instance bytes × CheckSays bytes status line × (files ≡ [])
 CommandSays held (Score instance solution) status line files =
     (bytes : List ℕ) × (others : List ℕ) × MayHold held instance bytes × MayHold held solution others × ScoreSays bytes others status line × (files ≡ [])
-CommandSays held (Solve instance solution turns seed flips) status line files =
-    (bytes : List ℕ) × (text : Option (List ℕ)) × MayHold held instance bytes × SolveSays bytes (record { turns = turns; seed = seed; flips = flips }) status line text × (files ≡ file_under solution text)
+CommandSays held (Solve instance solution certificate workers turns seed flips) status line files =
+    (bytes : List ℕ) × (texts : Option Texts) × MayHold held instance bytes × SolveSays bytes (record { workers = workers; turns = turns; seed = seed; flips = flips }) status line texts × (files ≡ files_under solution certificate texts)
 CommandSays held (Verify instance solution certificate) status line files =
     (bytes : List ℕ) × (others : List ℕ) × (last : List ℕ) × MayHold held instance bytes × MayHold held solution others × MayHold held certificate last × VerifySays bytes others last status line × (files ≡ [])
 CommandSays held (Trace instance t) status line files = (bytes : List ℕ) × MayHold held instance bytes × TraceSays bytes t status line × (files ≡ [])
@@ -212,7 +217,7 @@ CommandSays held (Trace instance t) status line files = (bytes : List ℕ) × Ma
 abbrev pub LacksFile : Option Held → Asked → Type 0
 LacksFile held (Check instance) = IsUnheld held instance
 LacksFile held (Score instance solution) = IsUnheld held instance ⊎ IsUnheld held solution
-LacksFile held (Solve instance solution turns seed flips) = IsUnheld held instance
+LacksFile held (Solve instance solution certificate workers turns seed flips) = IsUnheld held instance
 LacksFile held (Verify instance solution certificate) = IsUnheld held instance ⊎ (IsUnheld held solution ⊎ IsUnheld held certificate)
 LacksFile held (Trace instance t) = IsUnheld held instance
 
@@ -220,7 +225,7 @@ LacksFile held (Trace instance t) = IsUnheld held instance
 abbrev pub files_of : Asked → ℕ
 files_of (Check instance) = 1
 files_of (Score instance solution) = 2
-files_of (Solve instance solution turns seed flips) = 2
+files_of (Solve instance solution certificate workers turns seed flips) = 3
 files_of (Verify instance solution certificate) = 3
 files_of (Trace instance t) = 1
 
@@ -228,7 +233,7 @@ files_of (Trace instance t) = 1
 abbrev pub written_by : Asked → List (List ℕ)
 written_by (Check instance) = []
 written_by (Score instance solution) = []
-written_by (Solve instance solution turns seed flips) = solution ∷ []
+written_by (Solve instance solution certificate workers turns seed flips) = solution ∷ certificate ∷ []
 written_by (Verify instance solution certificate) = []
 written_by (Trace instance t) = []
 
@@ -239,8 +244,8 @@ AsksToVerify words = (instance : List ℕ) × (solution : List ℕ) × (certific
 -- the words ask for a solution with a number of flips that is given, and that is less than the pairs of points of the instance that the bytes under the name spell
 abbrev pub AllowsFewFlips : List (List ℕ) → Option Held → Type 0
 AllowsFewFlips words held =
-    (instance : List ℕ) × (solution : List ℕ) × (turns : ℕ) × (seed : ℕ) × (flips : ℕ) × (bytes : List ℕ) × (problem : Problem)
-    × Asks words (Solve instance solution turns seed (Some flips)) × MayHold held instance bytes × SpellsInstance bytes problem × (flips < pairs_of (length problem.points))
+    (instance : List ℕ) × (solution : List ℕ) × (certificate : List ℕ) × (workers : ℕ) × (turns : ℕ) × (seed : ℕ) × (flips : ℕ) × (bytes : List ℕ) × (problem : Problem)
+    × Asks words (Solve instance solution certificate workers turns seed (Some flips)) × MayHold held instance bytes × SpellsInstance bytes problem × (flips < pairs_of (length problem.points))
 
 -- what a run says, and the files that it writes: the status and the line that the words and the files call for. Memory and writes that fail aren't theirs to say
 abbrev pub Says : List (List ℕ) → Option Held → Status → List ℕ → Files → Type 0
@@ -268,6 +273,15 @@ abbrev pub HasBrokenOff : Option Held → Option Held → Files → Type 0
 HasBrokenOff None new files = new ≡ None
 HasBrokenOff (Some old) new files = (later : Held) × (new ≡ Some later) × AreCutOff old later files
 
+-- where the store tells, some of these files were written, the first ones, or all or none
+abbrev pub AreBegun : Held → Held → Files → Type 0
+AreBegun old new [] = new ≡ old
+AreBegun old new (file ∷ files) = (new ≡ old) ⊎ AreBegun (map.insert old file.0 file.1) new files
+
+abbrev pub HasBegun : Option Held → Option Held → Files → Type 0
+HasBegun None new files = new ≡ None
+HasBegun (Some old) new files = (later : Held) × (new ≡ Some later) × AreBegun old later files
+
 -- a command says this of the files, and the files that it writes were written
 abbrev pub CommandDoes : Option Held → Option Held → Asked → Status → List ℕ → Type 0
 CommandDoes held later c status line = (files : Files) × CommandSays held c status line files × HasWritten held later files
@@ -276,6 +290,10 @@ CommandDoes held later c status line = (files : Files) × CommandSays held c sta
 abbrev pub CommandBreaksOff : Option Held → Option Held → Asked → Type 0
 CommandBreaksOff held later c = (status : Status) × (line : List ℕ) × (files : Files) × CommandSays held c status line files × HasBrokenOff held later files
 
+-- a command says something of the files, and some of its files were written, the first ones, or none
+abbrev pub CommandBegins : Option Held → Option Held → Asked → Type 0
+CommandBegins held later c = (status : Status) × (line : List ℕ) × (files : Files) × CommandSays held c status line files × HasBegun held later files
+
 -- the run says this status and line, and its files were written
 abbrev pub Does : List (List ℕ) → Option Held → Option Held → Status → List ℕ → Type 0
 Does words held later status line = (files : Files) × Says words held status line files × HasWritten held later files
@@ -283,6 +301,10 @@ Does words held later status line = (files : Files) × Says words held status li
 -- the run says some status, and the writing of its files broke off
 abbrev pub BreaksOff : List (List ℕ) → Option Held → Option Held → Type 0
 BreaksOff words held later = (status : Status) × (line : List ℕ) × (files : Files) × Says words held status line files × HasBrokenOff held later files
+
+-- nothing was written; or the run says some status, and some of its files were written, the first ones
+abbrev pub Begins : List (List ℕ) → Option Held → Option Held → Type 0
+Begins words held later = (later ≡ held) ⊎ ((c : Asked) × Asks words c × CommandBegins held later c)
 
 -- the command, if it is one, doesn't write under the name
 abbrev pub LeavesName : List (List ℕ) → List ℕ → Type 0
@@ -338,3 +360,43 @@ abbrev pub Completes : List (List ℕ) → Option Held → Type 0 → Status →
 Completes words held Faultless result =
     (told : Held) (status : Status) (line : List ℕ) (files : Files) → held ≡ Some told → Says words (Some told) status line files → Faultless
     → (result ≡ status) ⊎ (result ≡ Memory)
+
+-- ---- what `solve` writes
+
+-- where the words ask for `solve` and the store tells: its first name holds an instance, and then its second and third names hold the texts of a solution and of a certificate that are written for it, of which this holds
+abbrev pub SolveWrites : List (List ℕ) → Option Held → Option Held → ((instance : Problem) (order : Order) (solution : Solution) (cert : Cert) → IsWritten instance order solution cert → Type 0) → Type 0
+SolveWrites words old new Holds =
+    (first second third : List ℕ) (workers turns seed : ℕ) (flips : Option ℕ) → Asks words (Solve first second third workers turns seed flips)
+    → (bytes : List ℕ) × (instance : Problem) × (solution : Solution) × (cert : Cert) × (written : IsWritten instance (order_of instance (record { workers = workers; turns = turns; seed = seed; flips = flips })) solution cert)
+    × MayHold old first bytes × SpellsInstance bytes instance × MayHold new second (text_of solution) × MayHold new third (cert_text cert)
+    × Holds instance (order_of instance (record { workers = workers; turns = turns; seed = seed; flips = flips })) solution cert written
+
+-- each held schedule replays from its input to the centre, and the total is the number of those rounds: the journal is legal from the opening, and leads to the plan that is written
+abbrev pub WritesReplayableBook : List (List ℕ) → Option Held → Option Held → Type 0
+WritesReplayableBook words old new = SolveWrites words old new (λ instance order solution cert written. IsReplayable instance written.opening written.end solution cert)
+
+-- no move lowers the total of the plan
+abbrev pub WritesSettledPlan : List (List ℕ) → Option Held → Option Held → Type 0
+WritesSettledPlan words old new = SolveWrites words old new (λ instance order solution cert written. IsSettled instance.points written.end)
+
+-- each two inputs have an earned row, and no assignment has a greater bound under them
+abbrev pub WritesBestAssignment : List (List ℕ) → Option Held → Option Held → Type 0
+WritesBestAssignment words old new = SolveWrites words old new (λ instance order solution cert written. HasBestAssignment instance (log_budget (length instance.inputs)) cert)
+
+-- each journal line is a turn's answer or a move of settling
+abbrev pub WritesAnswersThenSettling : List (List ℕ) → Option Held → Option Held → Type 0
+WritesAnswersThenSettling words old new = SolveWrites words old new (λ instance order solution cert written. AreAnswersThenSettling instance order written.opening written.end written.lines written.made cert)
+
+-- the turns of the lines ascend, and none is missed
+abbrev pub WritesTurnsInOrder : List (List ℕ) → Option Held → Option Held → Type 0
+WritesTurnsInOrder words old new = SolveWrites words old new (λ instance order solution cert written. AreLinesInOrder (turns_for instance order) instance.points instance.inputs written.opening written.lines)
+
+-- the total is that of the solution, and no plan of the instance has a total below the bound
+abbrev pub WritesProvedBound : List (List ℕ) → Option Held → Option Held → Type 0
+WritesProvedBound words old new = SolveWrites words old new (λ instance order solution cert written. IsProved instance solution cert.total cert.bound)
+
+-- `verify` says yes of what was written, with the total and the bound that were told
+abbrev pub WritesWhatVerifies : List (List ℕ) → Option Held → Option (List ℕ) → Option (List ℕ) → Type 0
+WritesWhatVerifies words later old new =
+    (first second third : List ℕ) (workers turns seed : ℕ) (flips : Option ℕ) → Asks words (Solve first second third workers turns seed flips)
+    → (total : ℕ) × (bound : ℕ) × IsTold old new (solved_line total bound) × CommandSays later (Verify first second third) Done (yes_line total bound) []

@@ -1,15 +1,15 @@
 // The command `check`.
 ghost use Rattle.std.specs.Prelude.{◌≡◌, ◌⊎◌, length, IfOk, IsErrOf, string_bytes};
 ghost use Rattle.host_io.specs.Store.{Counts, Rose};
-ghost use Rattle.centre_run.specs.Lines.{valid_line};
+ghost use Rattle.printed_lines.specs.Lines.{valid_line};
 ghost use Rattle.centre_words.specs.declared.asked.Asked.TheVariants.{Check};
 ghost use Rattle.centre_run.specs.Runs.{CheckSays, CommandDoes, LacksFile};
 
-use crate::lines::{bad_text, form_text, valid_text};
 use crate::reply::{Quiet, Reply, read_file, with_line};
 use crate::status::Status;
 use host_io::Store;
 use instance_json::{InstanceFault, read_instance};
+use printed_lines::{bad_text, form_text, valid_text};
 use std::alloc::Global;
 use tri_check::{CheckFault, Instance};
 

@@ -3,17 +3,13 @@
 
 mod checking;
 mod ending;
-mod fault_words;
-mod lines;
 mod reply;
 mod run;
 mod scoring;
-mod solution_lines;
 mod solving;
 mod status;
 mod threads;
 mod tracing;
-mod verify_lines;
 mod verifying;
 
 pub use ending::end_number;

@@ -68,6 +68,7 @@ pub(crate) fn write_file<S: Store>(store: &mut S, name: &str, bytes: &[u8]) -> R
     ensures read { IsErrOf result Quiet.ReadFault → ⊥ }
     ensures cause { IsErrOf result Quiet.WriteFault → Rose (S.write_faults store.old) (S.write_faults store.new) }
     ensures broken { IsErrOf result Quiet.WriteFault → HasBrokenOff (S.held store.old) (S.held store.new) ((name.now, bytes.now) ∷ []) }
+    ensures later { S.write_faults store.old ≤ S.write_faults store.new }
     ensures reads { S.read_faults store.new ≡ S.read_faults store.old }
     ensures counted { Counts (S.calls store.old) (S.calls store.new) }
 {

@@ -1,22 +1,22 @@
 // The top call: from the words to the status and the printed line.
 ghost use Rattle.std.specs.Prelude.{◌≡◌, ◌⊎◌, IfOk, IsErrOf, string_bytes};
 ghost use Rattle.host_io.specs.Store.{Rose};
-ghost use Rattle.centre_run.specs.Lines.{words_line};
+ghost use Rattle.printed_lines.specs.Lines.{words_line};
 ghost use Rattle.centre_words.specs.Words.{texts, Asks, IsUnasked};
 ghost use Rattle.centre_words.specs.declared.asked.Asked.{Asked};
 ghost use Rattle.centre_run.specs.Calls.{CallsFor, CallsInOrder};
-ghost use Rattle.centre_run.specs.Runs.{Does, BreaksOff, KeepsOthers, IsReadOnly, HasReadCause, CallsOnce, IsFaultless, Completes, Tells, TellsPart, AsksToVerify, AllowsFewFlips};
+ghost use Rattle.centre_run.specs.Runs.{Does, Begins, BreaksOff, KeepsOthers, IsReadOnly, HasReadCause, CallsOnce, IsFaultless, Completes, Tells, TellsPart, AsksToVerify, AllowsFewFlips, WritesReplayableBook, WritesSettledPlan, WritesBestAssignment, WritesAnswersThenSettling, WritesTurnsInOrder, WritesProvedBound, WritesWhatVerifies};
 
 use crate::checking::check_file;
-use crate::lines::words_text;
 use crate::reply::{Quiet, Reply, with_line};
 use crate::scoring::score_files;
-use crate::solving::{SolveOptions, solve_file};
+use crate::solving::{SolveOptions, Targets, solve_file};
 use crate::status::Status;
 use crate::tracing::trace_file;
 use crate::verifying::verify_files;
 use centre_words::{Asked, WordsFault, read_words};
 use host_io::{Sink, Store, put_all};
+use printed_lines::words_text;
 use std::alloc::Global;
 
 // What is said of words that are those of no command.
@@ -34,7 +34,7 @@ fn reply_to<S: Store>(alloc: Global, words: &[String], store: &mut S) -> Result<
     ensures cause { IsErrOf result Quiet.ReadFault
         → HasReadCause (texts words.now) (S.held store.old) (S.read_faults store.old) (S.read_faults store.new) }
     ensures unread { IsErrOf result Quiet.ReadFault → S.held store.new ≡ S.held store.old }
-    ensures memory { IsErrOf result Quiet.Memory → S.held store.new ≡ S.held store.old }
+    ensures memory { IsErrOf result Quiet.Memory → Begins (texts words.now) (S.held store.old) (S.held store.new) }
     ensures unwritten { IsErrOf result Quiet.WriteFault → Rose (S.write_faults store.old) (S.write_faults store.new) }
     ensures broken { IsErrOf result Quiet.WriteFault → BreaksOff (texts words.now) (S.held store.old) (S.held store.new) }
     ensures asked { IsErrOf result Quiet.ReadFault → ¬ IsUnasked (texts words.now) }
@@ -57,13 +57,24 @@ fn reply_to<S: Store>(alloc: Global, words: &[String], store: &mut S) -> Result<
             Asked::Solve {
                 instance,
                 solution,
+                certificate,
+                workers,
                 turns,
                 seed,
                 flips,
             },
         ) => {
-            let options = SolveOptions { turns, seed, flips };
-            solve_file(alloc, store, instance.text(), solution.text(), options)
+            let targets = Targets {
+                solution: solution.text(),
+                certificate: certificate.text(),
+            };
+            let options = SolveOptions {
+                workers,
+                turns,
+                seed,
+                flips,
+            };
+            solve_file(alloc, store, instance.text(), targets, options)
         }
         Ok(
             Asked::Verify {
@@ -111,9 +122,17 @@ pub fn run_plain<S: Store, O: Sink>(
     ensures no { result ≡ Status.No
         → Tells (texts words.now) (S.held store.old) (S.held store.new) Status.No (O.told out.old) (O.told out.new) }
     ensures no_by_verify { result ≡ Status.No → AsksToVerify (texts words.now) }
-    // 4: free, and nothing was written or put.
+    // What `solve` writes: a replayable book; its plan is settled; a best assignment over earned rows; each journal line a turn's answer or a move of settling; the turns in order, and none missed; and the bound is above no plan's total. `verify` says yes of it, with the same numbers.
+    ensures replayable_book { result ≡ Status.Done → WritesReplayableBook (texts words.now) (S.held store.old) (S.held store.new) }
+    ensures settled { result ≡ Status.Done → WritesSettledPlan (texts words.now) (S.held store.old) (S.held store.new) }
+    ensures best_assignment { result ≡ Status.Done → WritesBestAssignment (texts words.now) (S.held store.old) (S.held store.new) }
+    ensures answers_then_settling { result ≡ Status.Done → WritesAnswersThenSettling (texts words.now) (S.held store.old) (S.held store.new) }
+    ensures turns_in_order { result ≡ Status.Done → WritesTurnsInOrder (texts words.now) (S.held store.old) (S.held store.new) }
+    ensures bound_below_plans { result ≡ Status.Done → WritesProvedBound (texts words.now) (S.held store.old) (S.held store.new) }
+    ensures verifies { result ≡ Status.Done → WritesWhatVerifies (texts words.now) (S.held store.new) (O.told out.old) (O.told out.new) }
+    // 4: free, and nothing was put. Nothing was written before the work was done, and then whole files alone, in order.
     ensures memory { result ≡ Status.Memory → O.told out.new ≡ O.told out.old }
-    ensures memory_kept { result ≡ Status.Memory → S.held store.new ≡ S.held store.old }
+    ensures memory_kept { result ≡ Status.Memory → Begins (texts words.now) (S.held store.old) (S.held store.new) }
     // 5: a read fault was counted, or a telling store doesn't hold a name; nothing was written or put.
     ensures read_fault { result ≡ Status.ReadFault
         → HasReadCause (texts words.now) (S.held store.old) (S.read_faults store.old) (S.read_faults store.new) }

@@ -1,38 +1,22 @@
 // The command `score`.
-ghost use Rattle.std.specs.Prelude.{◌≡◌, ◌≢◌, ◌⊎◌, ◌+◌, ◌≤◌, [], ◌∷◌, length, IfOk, IsErrOf, string_bytes};
+ghost use Rattle.std.specs.Prelude.{◌≡◌, ◌⊎◌, ◌+◌, ◌≤◌, [], ◌∷◌, length, IfOk, IsErrOf, string_bytes};
 ghost use Rattle.host_io.specs.Store.{Rose};
 ghost use Rattle.tri_check.specs.Problems.{IsProblem};
-ghost use Rattle.centre_run.specs.Lines.{score_fault_line};
 ghost use Rattle.centre_words.specs.declared.asked.Asked.TheVariants.{Score};
 ghost use Rattle.centre_run.specs.Calls.{CallsFor, StopsReading};
 ghost use Rattle.centre_run.specs.Runs.{SolutionSays, RawSays, ScoreSays, CommandDoes, LacksFile};
 
-use crate::lines::{bad_text, form_text};
 use crate::reply::{Quiet, Reply, read_file, with_line};
-use crate::solution_lines::{
-    input_count_text, no_common_centre_text, other_uid_text, round_text, solution_form_text,
-    total_text,
-};
 use crate::status::Status;
 use host_io::Store;
 use instance_json::{InstanceFault, read_instance};
-use replay::{ScoreFault, score};
+use printed_lines::{
+    bad_text, form_text, other_uid_text, score_fault_text, solution_form_text, total_text,
+};
+use replay::score;
 use solution_json::{Solution, SolutionFault, read_solution};
-use std::alloc::{AllocError, Global};
+use std::alloc::Global;
 use tri_check::{CheckFault, Instance, RawInstance};
-
-// The line of the first fault in a solution's rounds.
-fn score_fault_text(alloc: Global, fault: ScoreFault) -> Result<String, AllocError>
-    ensures text { IfOk result (λ s. string_bytes s ≡ score_fault_line fault) }
-    ensures named { IfOk result (λ s. fault ≢ ScoreFault.OutOfMemory) }
-{
-    match fault {
-        ScoreFault::InputCount { said, is } => input_count_text(alloc, said, is),
-        ScoreFault::Round(t, fault) => round_text(alloc, t, fault),
-        ScoreFault::NoCommonCentre(t) => no_common_centre_text(alloc, t),
-        ScoreFault::OutOfMemory => Err(AllocError),
-    }
-}
 
 // What a solution says of an instance: its total, or its first fault.
 fn solution_reply(alloc: Global, instance: &Instance, solution: &Solution) -> Result<Reply, Quiet>

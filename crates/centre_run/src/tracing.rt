@@ -5,13 +5,13 @@ ghost use Rattle.tri_check.specs.Problems.{IsProblem};
 ghost use Rattle.centre_words.specs.declared.asked.Asked.TheVariants.{Trace};
 ghost use Rattle.centre_run.specs.Runs.{RunSays, TraceSays, CommandDoes, LacksFile};
 
-use crate::lines::{bad_text, flips_text, form_text, no_such_input_text};
 use crate::reply::{Quiet, Reply, read_file, with_line};
 use crate::status::Status;
 use host_io::Store;
 use instance_json::{InstanceFault, read_instance};
 use lawson_law::run_bound;
 use lawson_start::trace;
+use printed_lines::{bad_text, flips_text, form_text, no_such_input_text};
 use std::alloc::Global;
 use tri_check::{CheckFault, Instance};
 

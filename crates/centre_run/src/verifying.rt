@@ -7,14 +7,12 @@ ghost use Rattle.centre_words.specs.declared.asked.Asked.TheVariants.{Verify};
 ghost use Rattle.centre_run.specs.Calls.{CallsFor, StopsReading};
 ghost use Rattle.centre_run.specs.Runs.{RawSays, CertificateSays, VerifySays, CommandDoes, LacksFile};
 
-use crate::lines::{bad_text, form_text};
 use crate::reply::{Quiet, Reply, read_file, with_line};
-use crate::solution_lines::solution_form_text;
 use crate::status::Status;
-use crate::verify_lines::{cert_form_text, no_text, yes_text};
 use cert_text::{Cert, CertReadFault, read_cert};
 use host_io::Store;
 use instance_json::{InstanceFault, read_instance};
+use printed_lines::{bad_text, cert_form_text, form_text, no_text, solution_form_text, yes_text};
 use solution_json::{Solution, SolutionFault, read_solution};
 use std::alloc::Global;
 use tri_check::{CheckFault, Instance, RawInstance};

@@ -4,7 +4,11 @@
 #[cfg(test)]
 mod checking;
 #[cfg(test)]
+mod device_faults;
+#[cfg(test)]
 mod edited_certificates;
+#[cfg(test)]
+mod runs;
 #[cfg(test)]
 mod sizes;
 #[cfg(test)]

@@ -1,6 +1,5 @@
 // Runs over instances with weights: each row the weights of the square's two inputs, the words, and the line.
-use centre_run::*;
-use host_io::{MemSink, MemStore};
+use crate::runs::{run_with, store_with, text_under, verdict};
 use std::alloc::Global;
 use std::test::Fail;
 
@@ -13,19 +12,12 @@ fn square(alloc: Global, weights: &str) -> Result<String, Fail> {
 
 // What a run with these words prints, where `i.json` holds the instance and `s.json` a solution with one round for each input.
 fn line_of(alloc: Global, instance: &str, words: &[&str]) -> Result<String, Fail> {
-    let mut store = MemStore::make(alloc);
-    store.hold("i.json", instance.as_bytes())?;
+    let mut store = store_with(alloc, instance)?;
     let solution =
         r#"{"content_type":"CGSHOP2026_Solution","flips":[[[[0,2]]],[[]]],"instance_uid":"Q","meta":{}}"#;
     store.hold("s.json", solution.as_bytes())?;
-    let mut out = MemSink::make(alloc);
-    out.reserve(200)?;
-    let mut texts = Vec::new(alloc);
-    for word in words {
-        texts.push(String::from_str(alloc, word)?)?;
-    }
-    let _ = run_plain(alloc, &texts, &mut store, &mut out);
-    Ok(String::from_utf8(out.bytes().to_vec(alloc)?)?)
+    let (_, line) = run_with(alloc, &mut store, words)?;
+    Ok(line)
 }
 
 #[test]
@@ -58,22 +50,45 @@ fn the_weights_of_all_inputs_are_added_up(rt: HostRuntime) -> Result<(), Fail> {
 #[test]
 fn rounds_count_with_their_weights(rt: HostRuntime) -> Result<(), Fail> {
     let rows = [
-        ("[1,3]", "total 1 bound 0\n", "total 4\n"),
-        ("[2,2]", "total 2 bound 0\n", "total 4\n"),
-        ("[1,1]", "total 1 bound 0\n", "total 2\n"),
+        ("[1,3]", "total 4\n"),
+        ("[2,2]", "total 4\n"),
+        ("[1,1]", "total 2\n"),
     ];
-    for (weights, solved, scored) in rows {
+    for (weights, scored) in rows {
         let text = square(rt.alloc(), weights)?;
-        let words = ["solve", "i.json", "--turns", "0", "o.json"];
-        assert_eq!(rt;
-            line_of(rt.alloc(), text.as_str(), &words)?.as_str(),
-            solved
-        );
-        let words = ["score", "i.json", "s.json"];
-        assert_eq!(rt;
-            line_of(rt.alloc(), text.as_str(), &words)?.as_str(),
-            scored
-        );
+        let told = line_of(rt.alloc(), text.as_str(), &["score", "i.json", "s.json"])?;
+        assert_eq!(rt; told.as_str(), scored);
     }
+    Ok(())
+}
+
+#[test]
+fn totals_and_bounds_count_with_the_weights(rt: HostRuntime) -> Result<(), Fail> {
+    let rows = [
+        ("[1,3]", "total 1 bound 1\n"),
+        ("[2,2]", "total 2 bound 2\n"),
+        ("[1,1]", "total 1 bound 1\n"),
+    ];
+    let words = ["solve", "i.json", "--turns", "0", "o.json", "c.txt"];
+    for (weights, solved) in rows {
+        let text = square(rt.alloc(), weights)?;
+        let told = line_of(rt.alloc(), text.as_str(), &words)?;
+        assert_eq!(rt; told.as_str(), solved);
+    }
+    Ok(())
+}
+
+#[test]
+fn certificates_have_a_place_for_each_copy(rt: HostRuntime) -> Result<(), Fail> {
+    let text = square(rt.alloc(), "[2,2]")?;
+    let mut store = store_with(rt.alloc(), text.as_str())?;
+    let words = ["solve", "i.json", "s.json", "c.txt"];
+    run_with(rt.alloc(), &mut store, &words)?;
+    let certificate = text_under(rt.alloc(), &store, "c.txt")?;
+    assert!(rt; certificate.contains("\ninputs 2 4\nopening 2\ntotal 2\nbound 2\n"));
+    assert_eq!(rt;
+        verdict(rt.alloc(), &mut store)?.as_str(),
+        "yes total 2 bound 2\n"
+    );
     Ok(())
 }

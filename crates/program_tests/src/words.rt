@@ -16,11 +16,13 @@ fn read(alloc: Global, line: &str) -> Result<Option<Asked>, Fail> {
     }
 }
 
-// `solve` of `q` into `s`.
+// `solve` of `q` into `s` with the certificate `c`, by the caller alone.
 fn solve(alloc: Global, turns: u32, seed: u64, flips: Option<u64>) -> Result<Option<Asked>, Fail> {
     Ok(Some(Asked::Solve {
         instance: Name::of(alloc, "q")?,
         solution: Name::of(alloc, "s")?,
+        certificate: Name::of(alloc, "c")?,
+        workers: 0,
         turns,
         seed,
         flips,
@@ -31,16 +33,33 @@ fn solve(alloc: Global, turns: u32, seed: u64, flips: Option<u64>) -> Result<Opt
 fn solve_has_options_in_any_place(rt: HostRuntime) -> Result<(), Fail> {
     let alloc = rt.alloc();
     let rows = [
-        ("solve q s", 64, 1, None),
-        ("solve q s --turns 0", 0, 1, None),
-        ("solve --turns 1000000 q s", 1_000_000, 1, None),
-        ("solve q --seed 0 s", 64, 0, None),
-        ("solve q s --seed 18446744073709551615", 64, u64::MAX, None),
-        ("solve q s --flips 0", 64, 1, Some(0)),
-        ("solve q s --flips 1000000000", 64, 1, Some(1_000_000_000)),
-        ("solve --flips 7 q --seed 5 s --turns 3", 3, 5, Some(7)),
-        ("solve --seed 5 --turns 3 q s --flips 7", 3, 5, Some(7)),
-        ("solve q s --turns 00000000000000000003", 3, 1, None),
+        ("solve q s c", 64, 1, None),
+        ("solve q s c --workers 0", 64, 1, None),
+        ("solve q s c --turns 0", 0, 1, None),
+        ("solve --turns 1000000 q s c", 1_000_000, 1, None),
+        ("solve q --seed 0 s c", 64, 0, None),
+        ("solve q s --workers 00 c", 64, 1, None),
+        (
+            "solve q s c --seed 18446744073709551615",
+            64,
+            u64::MAX,
+            None,
+        ),
+        ("solve q s c --flips 0", 64, 1, Some(0)),
+        ("solve q s --flips 1000000000 c", 64, 1, Some(1_000_000_000)),
+        (
+            "solve --flips 7 q --seed 5 s --workers 0 c --turns 3",
+            3,
+            5,
+            Some(7),
+        ),
+        (
+            "solve --workers 0 --seed 5 --turns 3 q s c --flips 7",
+            3,
+            5,
+            Some(7),
+        ),
+        ("solve q s c --turns 00000000000000000003", 3, 1, None),
     ];
     for (line, turns, seed, flips) in rows {
         assert_eq!(rt;
@@ -53,10 +72,55 @@ fn solve_has_options_in_any_place(rt: HostRuntime) -> Result<(), Fail> {
 }
 
 #[test]
+fn solve_has_three_names_that_differ(rt: HostRuntime) -> Result<(), Fail> {
+    let rows = [
+        "solve",
+        "solve q",
+        "solve q s",
+        "solve q s c d",
+        "solve q q c",
+        "solve q s q",
+        "solve q s s",
+        "solve q q q",
+        "solve q --turns 3 q c",
+        "solve q s --workers 0 s",
+        "solve -q s c",
+        "solve q -s c",
+        "solve q s -c",
+        "solve q s ",
+        "solve q s --workers 0",
+    ];
+    for line in rows {
+        assert_eq!(rt; read(rt.alloc(), line)?, None, "{line}");
+    }
+    Ok(())
+}
+
+#[test]
+fn solve_has_no_workers_yet(rt: HostRuntime) -> Result<(), Fail> {
+    let rows = [
+        "solve q s c --workers 1",
+        "solve q s c --workers x",
+        "solve q s c --workers -1",
+        "solve q s c --workers +0",
+        "solve q s c --workers",
+        "solve q s c --workers ",
+        "solve q s c --workers=0",
+        "solve q s c --workers 0 --workers 0",
+        "solve q s c --workers 000000000000000000000",
+        "check q --workers 0",
+        "verify q s c --workers 0",
+    ];
+    for line in rows {
+        assert_eq!(rt; read(rt.alloc(), line)?, None, "{line}");
+    }
+    Ok(())
+}
+
+#[test]
 fn other_words_are_refused(rt: HostRuntime) -> Result<(), Fail> {
     let rows = [
         "",
-        "solve",
         "check",
         "check q s",
         "check -q",
@@ -82,29 +146,24 @@ fn other_words_are_refused(rt: HostRuntime) -> Result<(), Fail> {
         "trace q 256",
         "trace q 00000000000000000000001",
         "trace q 1 2",
-        "solve q",
-        "solve q s t",
-        "solve q q",
-        "solve q -s",
-        "solve q ",
-        "solve q s --",
-        "solve -- q s",
-        "solve q s -h",
-        "solve q s --help",
-        "solve q s --turns",
-        "solve q s --turns ",
-        "solve q s --turns -1",
-        "solve q s --turns +1",
-        "solve q s --turns x",
-        "solve q s --turns=1",
-        "solve q s --turns 1 --turns 1",
-        "solve q s --turns --turns",
-        "solve q s --turns 1000001",
-        "solve q s --seed 18446744073709551616",
-        "solve q s --flips 1000000001",
-        "solve q s --turns 000000000000000000003",
-        "solve q s --workers 1",
-        "--turns 1 solve q s",
+        "solve q s c --",
+        "solve -- q s c",
+        "solve q s c -h",
+        "solve q s c --help",
+        "solve q s c --turns",
+        "solve q s c --turns ",
+        "solve q s c --turns -1",
+        "solve q s c --turns +1",
+        "solve q s c --turns x",
+        "solve q s c --turns=1",
+        "solve q s c --turns 1 --turns 1",
+        "solve q s c --turns --turns",
+        "solve q s c --turns 1000001",
+        "solve q s c --seed 18446744073709551616",
+        "solve q s c --flips 1000000001",
+        "solve q s c --turns 000000000000000000003",
+        "solve q s c --works 0",
+        "--turns 1 solve q s c",
         "help",
         "--help",
     ];

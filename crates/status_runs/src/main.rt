@@ -23,25 +23,30 @@ fn main(rt: HostRuntime) -> io::Result<()> {
     show(&rt, &["check"])?;
     show(&rt, &["check", "missing.json"])?;
     show(&rt, &["check", "list.json"])?;
-    show(&rt, &["solve", "square.json", "found.json", "--flips", "0"])?;
-    show(&rt, &["score", "square.json", "found.json"])?;
-    show(&rt, &["solve", "square.json", "found.json"])?;
-    show(&rt, &["score", "square.json", "found.json"])?;
-    show(&rt, &["solve", "square.json", "no_folder/found.json"])?;
-    show(&rt, &["solve", "square.json", "./square.json"])?;
-    show(&rt, &["check", "square.json"])?;
     show(
         &rt,
         &[
-            "verify",
+            "solve",
             "square.json",
-            "square.solution.json",
-            "square.cert",
+            "found.json",
+            "found.cert",
+            "--flips",
+            "0",
         ],
+    )?;
+    show(&rt, &["score", "square.json", "found.json"])?;
+    show(&rt, &["solve", "square.json", "found.json", "found.cert"])?;
+    show(&rt, &["score", "square.json", "found.json"])?;
+    show(
+        &rt,
+        &["solve", "square.json", "no_folder/found.json", "none.cert"],
     )?;
     show(
         &rt,
-        &["verify", "square.json", "square.solution.json", "high.cert"],
+        &["solve", "square.json", "alone.json", "./square.json"],
     )?;
+    show(&rt, &["check", "square.json"])?;
+    show(&rt, &["verify", "square.json", "found.json", "found.cert"])?;
+    show(&rt, &["verify", "square.json", "alone.json", "high.cert"])?;
     Ok(())
 }

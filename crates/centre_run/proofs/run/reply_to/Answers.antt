@@ -1,14 +1,15 @@
-use Rattle.std.proofs.Common.{refl, sym, ap, subst, string_bytes, Err}
+use Rattle.std.proofs.Common.{inr, refl, sym, ap, subst, string_bytes, Err}
 use Rattle.std.proofs.lemmas.Result.{IfOk-weaker}
 use Rattle.centre_words.specs.declared.asked.Asked.TheVariants.{Check, Score, Solve, Verify, Trace}
 use Rattle.centre_words.specs.Words.{texts, Asks}
 use Rattle.host_io.specs.Store.{Rose}
-use Rattle.centre_run.specs.declared.status.Status.TheVariants.{Done, ReadFault, WriteFault}
+use Rattle.centre_run.specs.declared.solving.SolveOptions.{SolveOptions}
+use Rattle.centre_run.specs.declared.status.Status.TheVariants.{ReadFault, WriteFault}
 use Rattle.centre_run.specs.Runs.{Does}
 use Rattle.centre_run.specs.Calls.{CallsFor, CommandCalls}
 use Rattle.centre_run.proofs.Calling.{of_asked, check_calls, trace_calls}
 use Rattle.centre_words.specs.declared.asked.Asked.{Asked}
-use Rattle.centre_run.proofs.Saying.{command_does, command_breaks_off, words_does, verify_asked}
+use Rattle.centre_run.proofs.Saying.{command_does, command_breaks_off, words_does, verify_asked, solve_words, command_begins}
 use Rattle.centre_run.proofs.run.reply_to.Goals as goal
 
 pub returns-in-Ok-Check-clause-does : goal.returns-in-Ok-Check-clause-does
@@ -63,35 +64,38 @@ returns-in-Ok-Solve-clause-does g c =
     let old = g.S.Store.held c.args.store.now in
     let new = g.S.Store.held c.solve_file.new.store in
     let o = c.in-Ok-Solve in
-    let first = c.text-in-Ok-Solve.result.now in
-    let second = c.text-in-Ok-Solve-2.result.now in
-    let asks = subst (λ n. Asks words (Solve first n o.turns o.seed o.flips)) (sym c.text-in-Ok-Solve-2.ensures.bytes)
-    (subst (λ n. Asks words (Solve n o.solution o.turns o.seed o.flips)) (sym c.text-in-Ok-Solve.ensures.bytes) (subst (λ a. Asks words a) o.field-0-is o.ensures.asked)) in
+    let first = c.text-in-Ok-Solve-3.result.now in
+    let second = c.text-in-Ok-Solve.result.now in
+    let third = c.text-in-Ok-Solve-2.result.now in
+    let options : SolveOptions = record { workers = o.workers; turns = o.turns; seed = o.seed; flips = o.flips } in
+    let asks = solve_words words o.instance o.solution o.certificate first second third options c.text-in-Ok-Solve-3.ensures.bytes c.text-in-Ok-Solve.ensures.bytes c.text-in-Ok-Solve-2.ensures.bytes (subst (λ a. Asks words a) o.field-0-is o.ensures.asked) in
     IfOk-weaker c.solve_file.result _ (λ r. Does words old new r.status (string_bytes r.line))
-    (λ r does. command_does words old new (Solve first second o.turns o.seed o.flips) r.status (string_bytes r.line) asks does) c.solve_file.ensures.does
+    (λ r does. command_does words old new (Solve first second third o.workers o.turns o.seed o.flips) r.status (string_bytes r.line) asks does) c.solve_file.ensures.does
 
 pub returns-in-Ok-Solve-clause-called : goal.returns-in-Ok-Solve-clause-called
 returns-in-Ok-Solve-clause-called g c =
     let words = texts c.args.words.now in
     let o = c.in-Ok-Solve in
-    let first = c.text-in-Ok-Solve.result.now in
-    let second = c.text-in-Ok-Solve-2.result.now in
-    let asks = subst (λ n. Asks words (Solve first n o.turns o.seed o.flips)) (sym c.text-in-Ok-Solve-2.ensures.bytes)
-    (subst (λ n. Asks words (Solve n o.solution o.turns o.seed o.flips)) (sym c.text-in-Ok-Solve.ensures.bytes) (subst (λ a. Asks words a) o.field-0-is o.ensures.asked)) in
+    let first = c.text-in-Ok-Solve-3.result.now in
+    let second = c.text-in-Ok-Solve.result.now in
+    let third = c.text-in-Ok-Solve-2.result.now in
+    let options : SolveOptions = record { workers = o.workers; turns = o.turns; seed = o.seed; flips = o.flips } in
+    let asks = solve_words words o.instance o.solution o.certificate first second third options c.text-in-Ok-Solve-3.ensures.bytes c.text-in-Ok-Solve.ensures.bytes c.text-in-Ok-Solve-2.ensures.bytes (subst (λ a. Asks words a) o.field-0-is o.ensures.asked) in
     let before = g.S.Store.calls c.args.store.now in
     let now = g.S.Store.calls c.solve_file.new.store in
     IfOk-weaker c.solve_file.result _ (λ r. (d : Asked) → Asks words d → CallsFor d r.status before now)
-    (λ r called. of_asked words (λ d. CallsFor d r.status before now) (Solve first second o.turns o.seed o.flips) asks called) c.solve_file.ensures.called
+    (λ r called. of_asked words (λ d. CallsFor d r.status before now) (Solve first second third o.workers o.turns o.seed o.flips) asks called) c.solve_file.ensures.called
 
 pub returns-in-Ok-Solve-clause-broken : goal.returns-in-Ok-Solve-clause-broken
 returns-in-Ok-Solve-clause-broken g c = λ failed.
     let words = texts c.args.words.now in
     let o = c.in-Ok-Solve in
-    let first = c.text-in-Ok-Solve.result.now in
-    let second = c.text-in-Ok-Solve-2.result.now in
-    let asks = subst (λ n. Asks words (Solve first n o.turns o.seed o.flips)) (sym c.text-in-Ok-Solve-2.ensures.bytes)
-    (subst (λ n. Asks words (Solve n o.solution o.turns o.seed o.flips)) (sym c.text-in-Ok-Solve.ensures.bytes) (subst (λ a. Asks words a) o.field-0-is o.ensures.asked)) in
-    command_breaks_off words (g.S.Store.held c.args.store.now) (g.S.Store.held c.solve_file.new.store) (Solve first second o.turns o.seed o.flips) asks (c.solve_file.ensures.broken failed)
+    let first = c.text-in-Ok-Solve-3.result.now in
+    let second = c.text-in-Ok-Solve.result.now in
+    let third = c.text-in-Ok-Solve-2.result.now in
+    let options : SolveOptions = record { workers = o.workers; turns = o.turns; seed = o.seed; flips = o.flips } in
+    let asks = solve_words words o.instance o.solution o.certificate first second third options c.text-in-Ok-Solve-3.ensures.bytes c.text-in-Ok-Solve.ensures.bytes c.text-in-Ok-Solve-2.ensures.bytes (subst (λ a. Asks words a) o.field-0-is o.ensures.asked) in
+    command_breaks_off words (g.S.Store.held c.args.store.now) (g.S.Store.held c.solve_file.new.store) (Solve first second third o.workers o.turns o.seed o.flips) asks (c.solve_file.ensures.broken failed)
 
 pub returns-in-Ok-Verify-clause-does : goal.returns-in-Ok-Verify-clause-does
 returns-in-Ok-Verify-clause-does g c =
@@ -155,26 +159,39 @@ pub returns-in-Ok-Solve-clause-stopped : goal.returns-in-Ok-Solve-clause-stopped
 returns-in-Ok-Solve-clause-stopped g c = λ failed.
     let words = texts c.args.words.now in
     let o = c.in-Ok-Solve in
-    let first = c.text-in-Ok-Solve.result.now in
-    let second = c.text-in-Ok-Solve-2.result.now in
-    let asks = subst (λ n. Asks words (Solve first n o.turns o.seed o.flips)) (sym c.text-in-Ok-Solve-2.ensures.bytes)
-    (subst (λ n. Asks words (Solve n o.solution o.turns o.seed o.flips)) (sym c.text-in-Ok-Solve.ensures.bytes) (subst (λ a. Asks words a) o.field-0-is o.ensures.asked)) in
+    let first = c.text-in-Ok-Solve-3.result.now in
+    let second = c.text-in-Ok-Solve.result.now in
+    let third = c.text-in-Ok-Solve-2.result.now in
+    let options : SolveOptions = record { workers = o.workers; turns = o.turns; seed = o.seed; flips = o.flips } in
+    let asks = solve_words words o.instance o.solution o.certificate first second third options c.text-in-Ok-Solve-3.ensures.bytes c.text-in-Ok-Solve.ensures.bytes c.text-in-Ok-Solve-2.ensures.bytes (subst (λ a. Asks words a) o.field-0-is o.ensures.asked) in
     let held = g.S.Store.held c.args.store.now in
     let before = g.S.Store.calls c.args.store.now in
     let now = g.S.Store.calls c.solve_file.new.store in
     let Failed = Rose (g.S.Store.read_faults c.args.store.now) (g.S.Store.read_faults c.solve_file.new.store) in
-    of_asked words (λ d. CommandCalls held Failed d ReadFault before now) (Solve first second o.turns o.seed o.flips) asks (c.solve_file.ensures.stopped failed)
+    of_asked words (λ d. CommandCalls held Failed d ReadFault before now) (Solve first second third o.workers o.turns o.seed o.flips) asks (c.solve_file.ensures.stopped failed)
 
 pub returns-in-Ok-Solve-clause-broken_calls : goal.returns-in-Ok-Solve-clause-broken_calls
 returns-in-Ok-Solve-clause-broken_calls g c = λ failed.
     let words = texts c.args.words.now in
     let o = c.in-Ok-Solve in
-    let first = c.text-in-Ok-Solve.result.now in
-    let second = c.text-in-Ok-Solve-2.result.now in
-    let asks = subst (λ n. Asks words (Solve first n o.turns o.seed o.flips)) (sym c.text-in-Ok-Solve-2.ensures.bytes)
-    (subst (λ n. Asks words (Solve n o.solution o.turns o.seed o.flips)) (sym c.text-in-Ok-Solve.ensures.bytes) (subst (λ a. Asks words a) o.field-0-is o.ensures.asked)) in
+    let first = c.text-in-Ok-Solve-3.result.now in
+    let second = c.text-in-Ok-Solve.result.now in
+    let third = c.text-in-Ok-Solve-2.result.now in
+    let options : SolveOptions = record { workers = o.workers; turns = o.turns; seed = o.seed; flips = o.flips } in
+    let asks = solve_words words o.instance o.solution o.certificate first second third options c.text-in-Ok-Solve-3.ensures.bytes c.text-in-Ok-Solve.ensures.bytes c.text-in-Ok-Solve-2.ensures.bytes (subst (λ a. Asks words a) o.field-0-is o.ensures.asked) in
     let held = g.S.Store.held c.args.store.now in
     let before = g.S.Store.calls c.args.store.now in
     let now = g.S.Store.calls c.solve_file.new.store in
     let Failed = Rose (g.S.Store.read_faults c.args.store.now) (g.S.Store.read_faults c.solve_file.new.store) in
-    of_asked words (λ d. CommandCalls held Failed d WriteFault before now) (Solve first second o.turns o.seed o.flips) asks (Done, c.solve_file.ensures.broken_calls failed)
+    of_asked words (λ d. CommandCalls held Failed d WriteFault before now) (Solve first second third o.workers o.turns o.seed o.flips) asks (inr (c.solve_file.ensures.broken_calls failed))
+
+pub returns-in-Ok-Solve-clause-memory : goal.returns-in-Ok-Solve-clause-memory
+returns-in-Ok-Solve-clause-memory g c = λ wanted.
+    let words = texts c.args.words.now in
+    let o = c.in-Ok-Solve in
+    let first = c.text-in-Ok-Solve-3.result.now in
+    let second = c.text-in-Ok-Solve.result.now in
+    let third = c.text-in-Ok-Solve-2.result.now in
+    let options : SolveOptions = record { workers = o.workers; turns = o.turns; seed = o.seed; flips = o.flips } in
+    let asks = solve_words words o.instance o.solution o.certificate first second third options c.text-in-Ok-Solve-3.ensures.bytes c.text-in-Ok-Solve.ensures.bytes c.text-in-Ok-Solve-2.ensures.bytes (subst (λ a. Asks words a) o.field-0-is o.ensures.asked) in
+    command_begins words (g.S.Store.held c.args.store.now) (g.S.Store.held c.solve_file.new.store) (Solve first second third o.workers o.turns o.seed o.flips) asks (c.solve_file.ensures.memory wanted)

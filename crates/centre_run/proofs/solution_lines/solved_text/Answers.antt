@@ -1,7 +1,0 @@
-use Rattle.std.proofs.Common.{◌≡◌, ◌∙◌, refl, append_assoc, string_bytes}
-use Rattle.std.proofs.lemmas.Result.{IfOk-weaker}
-use Rattle.centre_run.specs.Lines.{solved_line}
-use Rattle.centre_run.proofs.solution_lines.solved_text.Goals as goal
-
-pub returns : goal.returns
-returns c = IfOk-weaker c.format.result _ (λ s. string_bytes s ≡ solved_line c.args.total c.args.bound) (λ s h. h ∙ simp append_assoc refl) c.format.ensures.ok

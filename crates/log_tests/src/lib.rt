@@ -1,0 +1,5 @@
+//! Tests of certificates whose rows stand on logs.
+#![tactic(auto)]
+
+#[cfg(test)]
+mod hexagon;
