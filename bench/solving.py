@@ -3,9 +3,9 @@
 
 For each number of points it writes an instance of random points, always the same ones, with M inputs. Each input joins
 the points in the order of some direction: a point is joined to all that it sees of the hull of those before it.
-It runs `./flipcentre solve` on it without turns, which settles the first centre, and with N of them. It prints both
-totals, and the seconds of processor time that each run takes beyond `check` on the same file. Nothing is checked here
-but that `score` prints the same total."""
+It runs `./flipcentre solve` on it without turns, which settles the first centre, and with N of them; each run proves the
+row of each two inputs as well. It prints both totals, the bound, and the seconds of processor time that each run takes
+beyond `check` on the same file. Nothing is checked here but that `verify` says yes to the same total and bound."""
 
 import argparse
 import json
@@ -83,12 +83,13 @@ def run(folder, words):
 
 
 def solve(folder, turns):
-    """The total with so many turns, and the time that it takes."""
-    line, took = run(folder, ["solve", "instance.json", "solution.json", "--turns", str(turns)])
-    score, _ = run(folder, ["score", "instance.json", "solution.json"])
-    if score[1] != line[1]:
-        raise SystemExit(f"solve says {line}, and score says {score}")
-    return line[1], took
+    """The total and the bound with so many turns, and the time that it takes."""
+    names = ["instance.json", "solution.json", "certificate.txt"]
+    line, took = run(folder, ["solve", *names, "--turns", str(turns)])
+    verdict, _ = run(folder, ["verify", *names])
+    if verdict != ["yes", *line]:
+        raise SystemExit(f"solve says {line}, and verify says {verdict}")
+    return line[1], line[3], took
 
 
 def measure(count, inputs, turns):
@@ -96,9 +97,9 @@ def measure(count, inputs, turns):
         with open(os.path.join(folder, "instance.json"), "w", encoding="utf-8") as file:
             json.dump(instance(count, inputs), file, separators=(",", ":"))
         _, checking = run(folder, ["check", "instance.json"])
-        before, settling = solve(folder, 0)
-        after, improving = solve(folder, turns)
-    print(f"{count} points, {inputs} inputs: check {checking:.2f} s; without turns total {before} in {settling - checking:.2f} s more, with {turns} turns total {after} in {improving - checking:.2f} s more", flush=True)
+        before, _, settling = solve(folder, 0)
+        after, bound, improving = solve(folder, turns)
+    print(f"{count} points, {inputs} inputs: check {checking:.2f} s; without turns total {before} in {settling - checking:.2f} s more, with {turns} turns total {after} in {improving - checking:.2f} s more; bound {bound}", flush=True)
 
 
 def main():
