@@ -35,7 +35,7 @@ use Rattle.worker_pool.proofs.Later.{there_later, state_later, row_later, no_ris
 
 -- ---- lists with one item more
 module _ {X : Type 0} where
-  same : (x y : X) → Some x ≡ Some y → x ≡ y
+  pub same : (x y : X) → Some x ≡ Some y → x ≡ y
   same x y e = let i : x ≡ y = cc in i
 
   one_more : (xs : List X) (y : X) (n : ℕ) (x : X) → slice_get (xs ++ y ∷ []) n ≡ Some x → (slice_get xs n ≡ Some x) ⊎ ((n ≡ length xs) × (y ≡ x))
@@ -78,7 +78,7 @@ module _ (words : ℕ → List ℕ) (points : List Point) (inputs : List (List E
   swap_turn u input (improver.NotBetter held given) line e = absurd (cc)
   swap_turn u input (improver.Stuck round) line e = absurd (cc)
 
-  answer_turn : (plan : Plan) (u : ℕ) (j : jobs.Job) (line : law.Entry Shown) → answer words points inputs plan u j ≡ Some line → turn_of line ≡ u
+  pub answer_turn : (plan : Plan) (u : ℕ) (j : jobs.Job) (line : law.Entry Shown) → answer words points inputs plan u j ≡ Some line → turn_of line ≡ u
   answer_turn plan u (jobs.Walks p) line e = move_turn u _ line e
   answer_turn plan u (jobs.Descends p t) line e = swap_turn u t _ line e
   answer_turn plan u (jobs.Compares i j) line e = absurd (cc)

@@ -1,0 +1,6 @@
+mod Counted
+mod Crossing
+mod Filled
+mod Filling
+mod Gathered
+mod Working
