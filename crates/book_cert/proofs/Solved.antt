@@ -81,7 +81,7 @@ module _ (b : HeldBook) (L : IsLegalBook b) (s : Solution) (c : Cert) (S : IsSol
       settled = H.settled;
       best = has_best;
       answers = record { journal = journal_is; answers = H.answers };
-      in_order = H.in_order;
+      others = H.others;
       below = subst (IsBelowPlans b.problem) (sym C.bound) (bounds_plans b L);
     }
 

@@ -1,4 +1,4 @@
--- What a solver on one thread writes for an instance: a solution and its certificate.
+-- What a solver writes for an instance: a solution and its certificate.
 use Rattle.std.specs.Prelude.{◌≡◌, ℕ, List, ◌++◌, length, map, sum, All}
 use Rattle.edge_table.specs.declared.edge.Edge.{Edge}
 use Rattle.tri_theory.specs.Rounds.{total}
@@ -11,14 +11,14 @@ use Rattle.plan_law.specs.Plans.{Plan, plan_total, schedules, IsSettled}
 use Rattle.plan_law.specs.Books as law
 use Rattle.plan_law.specs.Books.{opening_state, lower_of, IsLegal}
 use Rattle.plan_law.specs.Jobs.{pairs}
-use Rattle.plan_law.specs.Solving.{turns_of, moves_at, plan_after_all, AreLines, AreLinesInOrder}
+use Rattle.plan_law.specs.Solving.{turns_of, moves_at, plan_after_all, AreLines}
 use Rattle.book_core.specs.Entries.{Shown, pair_row, IsJustifiedRow}
 use Rattle.book_core.specs.HeldBooks.{IsBelowPlans}
 use Rattle.solution_json.specs.declared.solution.Solution.{Solution}
 use Rattle.cert_text.specs.declared.cert.Cert.{Cert}
 use Rattle.verify_core.specs.Faults.{AreNamed, bound_by}
 use Rattle.book_solve.specs.declared.order.Order.{Order}
-use Rattle.book_solve.specs.Solved.{IsOpeningPlan, log_budget, turns_for}
+use Rattle.book_solve.specs.Solved.{IsOpeningPlan, log_budget, turns_for, AreLinesBy}
 use Rattle.book_cert.specs.Certificates.{entries_of}
 
 -- a replayable book: the solution and the certificate are the instance's, the journal is legal from the opening, the lists are the schedules of the plan to which it leads, and the totals are those of both
@@ -55,7 +55,7 @@ pub record IsWritten (instance : Problem) (order : Order) (s : Solution) (c : Ce
   pub settled : IsSettled instance.points end
   pub best : HasBestAssignment instance (log_budget (length instance.inputs)) c
   pub answers : AreAnswersThenSettling instance order opening end lines made c
-  -- the turns ascend, and none is missed: an improver's turn without a line has no better answer on the plan after the lines of lower turns
-  pub in_order : AreLinesInOrder (turns_for instance order) instance.points instance.inputs opening lines
+  -- where no worker is asked for, the turns ascend, and none is missed: an improver's turn without a line has no better answer on the plan after the lines of lower turns. With workers each such turn has none on the plan after some lines, or came too late with it, as few do
+  pub others : AreLinesBy order.workers (turns_for instance order) instance.points instance.inputs opening lines
   -- no plan of the instance has a total below the bound
   pub below : IsBelowPlans instance c.bound

@@ -12,7 +12,7 @@ mod writing;
 
 pub use certificate::certificate_of;
 pub use solution::solution_of;
-pub use writing::{Written, solve};
+pub use writing::{Written, write_alone, write_together};
 
 /// The laws of what a solver writes.
 pub fn laws()

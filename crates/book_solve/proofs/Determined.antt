@@ -17,7 +17,7 @@ use Rattle.plan_law.proofs.Proved.{flips_are_found, settling_is_determined, line
 use Rattle.book_core.specs.Entries.{Shown}
 use Rattle.book_core.specs.HeldBooks.{HeldBook, now_of}
 use Rattle.book_solve.specs.declared.order.Order.{Order}
-use Rattle.book_solve.specs.Solved.{IsOpeningPlan, turns_for, IsSolvedBook}
+use Rattle.book_solve.specs.Solved.{IsOpeningPlan, turns_for, AreLinesBy, IsSolvedBook}
 use Rattle.book_solve.specs.Laws.{PlansAreDetermined}
 
 some_same : {T : Type 0} (x y : T) → Some x ≡ Some y → x ≡ y
@@ -75,12 +75,14 @@ same_opening problem budget plan other p opens opened =
     opens.runs
     (subst (λ c. AllZip (λ input flips. IsLawsonRun problem.points input flips c) problem.inputs (map flipped_edges other.lists)) (sym centre) opened.runs))
 
--- the lines of a solved book are those that one thread makes
-lines_are : (problem : Problem) (order : Order) (book : HeldBook) (S : IsSolvedBook problem order book) → S.lines ≡ lines_alone (turns_for problem order) problem.points problem.inputs book.opening
-lines_are problem order book S = lines_are_determined Shown (turns_for problem order) problem.points problem.inputs book.opening (now_of book).plan S.lines S.made S.answers S.in_order
+-- where no worker is asked for, the lines of a solved book are those that one thread makes
+lines_are : (problem : Problem) (order : Order) (book : HeldBook) (S : IsSolvedBook problem order book) → order.workers ≡ 0 → S.lines ≡ lines_alone (turns_for problem order) problem.points problem.inputs book.opening
+lines_are problem order book S alone =
+    lines_are_determined Shown (turns_for problem order) problem.points problem.inputs book.opening (now_of book).plan S.lines S.made S.answers
+    (subst (λ (w : ℕ). AreLinesBy w (turns_for problem order) problem.points problem.inputs book.opening S.lines) alone S.others)
 
 pub plans_are_determined : PlansAreDetermined
-plans_are_determined problem order book other p S O = (
+plans_are_determined problem order book other alone p S O = (
   S.journal ∙ (ap₂ (λ lines made. lines ++ moves_at (turns_of (turns_for problem order) problem.inputs) made) lines settled.0 ∙ sym O.journal),
   settled.1,
 )
@@ -89,7 +91,7 @@ plans_are_determined problem order book other p S O = (
     opening = same_opening problem order.flips book.opening other.opening p S.opens O.opens
 
     lines : S.lines ≡ O.lines
-    lines = lines_are problem order book S ∙ (ap (lines_alone (turns_for problem order) problem.points problem.inputs) opening ∙ sym (lines_are problem order other O))
+    lines = lines_are problem order book S alone ∙ (ap (lines_alone (turns_for problem order) problem.points problem.inputs) opening ∙ sym (lines_are problem order other O alone))
 
     worked_on : plan_after_all problem.points problem.inputs other.opening O.lines ≡ plan_after_all problem.points problem.inputs book.opening S.lines
     worked_on = sym (ap₂ (λ plan lines. plan_after_all problem.points problem.inputs plan lines) opening lines)

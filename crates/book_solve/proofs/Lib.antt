@@ -5,3 +5,5 @@ pub mod Lines
 pub mod Numbers
 pub mod Rows
 pub mod Turns
+pub mod InOrder
+pub mod OfWorkers

@@ -1,25 +1,23 @@
 -- The laws of what a solver leaves. Each is the contract of a function of the crate, so each is proved.
-use Rattle.std.specs.Prelude.{◌≡◌, ◌≢◌, List, length, slice_get, Some, ℕ}
+use Rattle.std.specs.Prelude.{◌≡◌, ◌≢◌, List, slice_get, Some, ℕ}
 use Rattle.tri_check.specs.Problems.{Problem, IsProblem}
-use Rattle.flip_cnf.specs.HeldFrames.{HeldFrame, IsHeldFrame}
 use Rattle.plan_law.specs.Solving.{turns_of}
-use Rattle.book_core.specs.HeldBooks.{HeldBook, ground_of, now_of}
+use Rattle.book_core.specs.HeldBooks.{HeldBook, now_of}
 use Rattle.worker_pool.specs.declared.outcome.Outcome.{Outcome}
 use Rattle.worker_pool.specs.declared.outcome.Outcome.TheVariants.{NoMemory}
-use Rattle.worker_pool.specs.Runs.{AreTurnsInOrder}
+use Rattle.book_solve.specs.Crews.{IsRun}
 use Rattle.worker_pool.specs.Finishes.{IsFinished}
 use Rattle.book_solve.specs.declared.order.Order.{Order}
-use Rattle.book_solve.specs.Solved.{IsOpeningPlan, limits_of, turns_for, plan_lines, IsSolvedBook}
+use Rattle.book_solve.specs.Solved.{turns_for, plan_lines, IsSolvedBook}
 
--- the turns of a run, one for each, of which none wanted memory, and then the finish, leave a solved book
+-- the turns of a run, of which none wanted memory, and then the finish, leave a solved book
 abbrev pub TurnsAndFinishSolve : Type 0
 TurnsAndFinishSolve =
-    (problem : Problem) (order : Order) (frame : HeldFrame) (run end : HeldBook) (outcomes : List Outcome) → IsProblem problem.points problem.inputs → run.problem ≡ problem → IsOpeningPlan problem order.flips run.opening → IsHeldFrame problem.points frame
-    → AreTurnsInOrder (limits_of problem order) frame (ground_of run) run.journal outcomes → length outcomes ≡ turns_of (turns_for problem order) problem.inputs
-    → ((u : ℕ) → slice_get outcomes u ≢ Some NoMemory) → IsFinished (turns_of (turns_for problem order) problem.inputs) run end → IsSolvedBook problem order end
+    (problem : Problem) (order : Order) (run end : HeldBook) (outcomes : List Outcome) → IsProblem problem.points problem.inputs → IsRun problem order run outcomes → ((u : ℕ) → slice_get outcomes u ≢ Some NoMemory)
+    → IsFinished (turns_of (turns_for problem order) problem.inputs) run end → IsSolvedBook problem order end
 
--- the instance and the order decide which moves and swaps a solved book has, and so its plan
+-- where no worker is asked for, the instance and the order decide which moves and swaps a solved book has, and so its plan
 abbrev pub PlansAreDetermined : Type 0
 PlansAreDetermined =
-    (problem : Problem) (order : Order) (book other : HeldBook) → IsProblem problem.points problem.inputs → IsSolvedBook problem order book → IsSolvedBook problem order other
+    (problem : Problem) (order : Order) (book other : HeldBook) → order.workers ≡ 0 → IsProblem problem.points problem.inputs → IsSolvedBook problem order book → IsSolvedBook problem order other
     → (plan_lines book.journal ≡ plan_lines other.journal) × ((now_of book).plan ≡ (now_of other).plan)

@@ -1,2 +1,3 @@
 pub mod Solved
+pub mod Crews
 pub mod Laws

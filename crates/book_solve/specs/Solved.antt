@@ -1,6 +1,7 @@
--- What a solver is asked for on one thread, and the book that it leaves.
-use Rattle.std.specs.Prelude.{◌≡◌, ℕ, ◌<◌, ◌/◌, min, max, Some, List, ◌++◌, length, map, filter}
+-- What a solver is asked for, and the book that it leaves.
+use Rattle.std.specs.Prelude.{◌≡◌, ℕ, zero, suc, ◌<◌, ◌/◌, min, max, Some, List, ◌++◌, length, map, filter}
 use Rattle.edge_table.specs.declared.edge.Edge.{Edge}
+use Rattle.geo_orient.specs.declared.Point.{Point}
 use Rattle.tri_check.specs.Problems.{Problem}
 use Rattle.flip_list_law.specs.FlipLists.{flipped_edges}
 use Rattle.lawson_law.specs.LawsonRuns.{IsOpening}
@@ -12,7 +13,7 @@ use Rattle.plan_law.specs.Books as law
 use Rattle.plan_law.specs.Books.{is_plan_entry, row_of}
 use Rattle.plan_law.specs.Jobs.{pair_count}
 use Rattle.plan_law.specs.Solving as turn
-use Rattle.plan_law.specs.Solving.{turns_of, moves_at, AreLines, AreLinesInOrder}
+use Rattle.plan_law.specs.Solving.{turns_of, moves_at, AreLines, AreLinesInOrder, AreLinesOfWorkers}
 use Rattle.book_core.specs.declared.entry.Entry.{Entry}
 use Rattle.book_core.specs.Entries.{Shown, pair_row, lines_of}
 use Rattle.book_core.specs.HeldBooks.{HeldBook, now_of}
@@ -47,7 +48,12 @@ plan_lines journal = filter is_plan_entry (lines_of journal)
 abbrev pub HasEarnedRow : Problem → HeldBook → ℕ → ℕ → Type 0
 HasEarnedRow problem b i j = (found : row.Row) × (row_of (now_of b).rows i j ≡ Some (pair_row found)) × IsEarnedFor 3 problem.points problem.inputs (log_budget (length problem.inputs)) found
 
--- the book of an instance after all turns, in order, and after its finish. Each of its moves and swaps is the better answer of an improver's turn on the plan before it, or, at the end, a move of settling; an improver's turn without one had no better answer on the plan that the lower turns left. The plan is settled, each two inputs have an earned row, and no assignment has a greater bound
+-- where no worker is asked for, the turns of the lines ascend, and none is missed; with workers, few turns without a line came too late
+abbrev pub AreLinesBy : ℕ → turn.Order → List Point → List (List Edge) → Plan → List (law.Entry Shown) → Type 0
+AreLinesBy zero order points inputs opening lines = AreLinesInOrder order points inputs opening lines
+AreLinesBy (suc n) order points inputs opening lines = AreLinesOfWorkers (suc n) order points inputs opening lines
+
+-- the book of an instance after all turns and after its finish. Each of its moves and swaps is the better answer of an improver's turn on the plan before it, or, at the end, a move of settling. An improver's turn without one had no better answer on the plan that it saw, which is on one thread the plan that the lower turns left, or, with workers, came too late with it, as few do. The plan is settled, each two inputs have an earned row, and no assignment has a greater bound
 pub record IsSolvedBook (problem : Problem) (order : Order) (b : HeldBook) : Type 0 where
   pub problem_is : b.problem ≡ problem
   pub opens : IsOpeningPlan problem order.flips b.opening
@@ -55,7 +61,7 @@ pub record IsSolvedBook (problem : Problem) (order : Order) (b : HeldBook) : Typ
   pub made : List (List Edge)
   pub journal : plan_lines b.journal ≡ lines ++ moves_at (turns_of (turns_for problem order) problem.inputs) made
   pub answers : AreLines (turns_for problem order) problem.points problem.inputs b.opening lines made (now_of b).plan
-  pub in_order : AreLinesInOrder (turns_for problem order) problem.points problem.inputs b.opening lines
+  pub others : AreLinesBy order.workers (turns_for problem order) problem.points problem.inputs b.opening lines
   pub settled : IsSettled problem.points (now_of b).plan
   pub rows : (i j : ℕ) → i < j → j < length problem.inputs → HasEarnedRow problem b i j
   pub best : IsBestAt (now_of b) (now_of b).assignment

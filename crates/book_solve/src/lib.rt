@@ -1,4 +1,4 @@
-//! The book that a solver leaves on one thread: the first centre, improved and bounded in turns, settled, and with a best assignment.
+//! The book that a solver leaves: the first centre, improved and bounded in turns, settled, and with a best assignment.
 #![tactic(auto)]
 
 ghost use Rattle.book_solve.specs.Laws.{TurnsAndFinishSolve, PlansAreDetermined};
@@ -12,7 +12,7 @@ mod threads;
 pub use limits::log_budget;
 pub use opening::open;
 pub use order::Order;
-pub use solving::solve_alone;
+pub use solving::{solve_alone, solve_together};
 
 /// The laws of what a solver leaves.
 pub fn laws()

@@ -9,4 +9,6 @@ pub struct Order {
     pub turns: u32,
     /// The state in which the words of each walk begin.
     pub seed: u64,
+    /// How many workers take the turns side by side. Where it is 0 the caller takes them in order.
+    pub workers: u32,
 }

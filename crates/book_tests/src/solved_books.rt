@@ -1,5 +1,5 @@
 // What is solved and written for the octagon whose inputs are the fans at two neighbours. They lie four rounds apart, and the opening needs five.
-ghost use Rattle.std.specs.Prelude.{◌≤◌};
+ghost use Rattle.std.specs.Prelude.{◌≡◌, ◌≤◌};
 
 use crate::polygons::{OCTAGON, polygon};
 use book_cert::*;
@@ -16,16 +16,19 @@ const NO_TURNS: Order = Order {
     flips: 28,
     turns: 0,
     seed: 1,
+    workers: 0,
 };
 
 const FOUR_TURNS: Order = Order {
     flips: 28,
     turns: 4,
     seed: 1,
+    workers: 0,
 };
 
 fn solved(alloc: Global, order: Order) -> Result<Book, Fail>
-    requires { order.turns ≤ 1_000_000 }
+    requires turns { order.turns ≤ 1_000_000 }
+    requires workers { order.workers ≡ 0 }
 {
     Ok(solve_alone(alloc, polygon(alloc, &OCTAGON)?, order)?)
 }
@@ -71,6 +74,7 @@ fn solving_names_runs_past_their_flips(rt: HostRuntime) -> Result<(), Fail> {
         flips: 4,
         turns: 0,
         seed: 1,
+        workers: 0,
     };
     let solved = solve_alone(rt.alloc(), polygon(rt.alloc(), &OCTAGON)?, order);
     assert!(rt; solved.err() == Some(StartFault::FlipBudget(1)));
@@ -115,7 +119,7 @@ fn a_better_plan_is_written_with_the_line_that_made_it(rt: HostRuntime) -> Resul
     let Written {
         solution,
         certificate,
-    } = solve(rt.alloc(), inst, FOUR_TURNS)?;
+    } = write_alone(rt.alloc(), inst, FOUR_TURNS)?;
     expect_rounds(&rt, &solution, 4);
     expect_certificate(&rt, &certificate, 4, 1);
     Ok(())
