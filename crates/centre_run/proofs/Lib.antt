@@ -1,7 +1,10 @@
+mod Asking
 mod Budgets
 mod Calling
-mod Once
 mod Found
+mod Once
+mod Others
+mod Replied
 mod Saying
 mod Shown
 mod Writes

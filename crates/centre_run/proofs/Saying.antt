@@ -22,7 +22,7 @@ use Rattle.host_io.specs.Sink.{Takes}
 use Rattle.host_io.specs.declared.fail.SinkFail.{SinkFail}
 use Rattle.centre_words.specs.declared.asked.Asked.{Asked}
 use Rattle.centre_words.specs.declared.asked.Asked.TheVariants.{Check, Score, Solve, Verify, Trace}
-use Rattle.centre_words.specs.Table.{Number, turns}
+use Rattle.centre_words.specs.Table.{Number, turns, workers}
 use Rattle.centre_words.specs.Words.{values_of, IsChosen, Asks, IsUnasked}
 use Rattle.centre_run.specs.declared.solving.SolveOptions.{SolveOptions}
 use Rattle.centre_run.specs.declared.solving.Texts.{Texts}
@@ -122,6 +122,10 @@ chosen_small number usual (value ∷ other ∷ values) n is small chosen = absur
 -- so the words ask for few turns
 pub few_turns : (words : List (List ℕ)) (i s c : List ℕ) (workers n seed : ℕ) (flips : Option ℕ) → Asks words (Solve i s c workers n seed flips) → n ≤ 1000000
 few_turns words i s c workers n seed flips asks = chosen_small turns 64 (values_of turns.name asks.pieces) n refl (omega arith) asks.turns_is
+
+-- and for few workers
+pub few_workers : (words : List (List ℕ)) (i s c : List ℕ) (n some seed : ℕ) (flips : Option ℕ) → Asks words (Solve i s c n some seed flips) → n ≤ 16
+few_workers words i s c n some seed flips asks = chosen_small workers 4 (values_of workers.name asks.pieces) n refl (omega arith) asks.workers_is
 
 -- what was begun for the command that words ask for
 pub command_begins : (words : List (List ℕ)) (old new : Option Held) (c : Asked) → Asks words c → (new ≡ old) ⊎ CommandBegins old new c → Begins words old new

@@ -2,4 +2,5 @@ pub mod Calls
 pub mod Ends
 pub mod Orders
 pub mod Runs
+pub mod Solvers
 pub mod Statuses

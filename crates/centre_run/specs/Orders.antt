@@ -14,4 +14,4 @@ flips_allowed instance (Some flips) = flips
 flips_allowed instance None = pairs_of (length instance.points)
 
 abbrev pub order_of : Problem → SolveOptions → Order
-order_of instance options = record { flips = flips_allowed instance options.flips; turns = options.turns; seed = options.seed }
+order_of instance options = record { flips = flips_allowed instance options.flips; turns = options.turns; seed = options.seed; workers = options.workers }

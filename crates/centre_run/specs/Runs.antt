@@ -38,8 +38,9 @@ use Rattle.verify_core.specs.Faults.{IsShown, OnNo}
 use Rattle.lawson_start.specs.Starts.{IsOverBudget, IsWholeRun}
 use Rattle.book_solve.specs.declared.order.Order.{Order}
 use Rattle.plan_law.specs.Plans.{IsSettled}
-use Rattle.plan_law.specs.Solving.{AreLinesInOrder}
+use Rattle.plan_law.specs.Solving.{AreLinesInOrder, AreLinesOfWorkers}
 use Rattle.book_solve.specs.Solved.{log_budget, turns_for}
+use Rattle.book_core.specs.HeldBooks.{IsBelowPlans}
 use Rattle.book_cert.specs.Written.{IsWritten, IsReplayable, HasBestAssignment, AreAnswersThenSettling}
 use Rattle.centre_run.specs.declared.solving.SolveOptions.{SolveOptions}
 use Rattle.centre_run.specs.declared.solving.Texts.{Texts}
@@ -241,6 +242,14 @@ written_by (Trace instance t) = []
 abbrev pub AsksToVerify : List (List ℕ) → Type 0
 AsksToVerify words = (instance : List ℕ) × (solution : List ℕ) × (certificate : List ℕ) × Asks words (Verify instance solution certificate)
 
+-- the words ask for a solution, by so many workers
+abbrev pub AsksForSolution : List (List ℕ) → ℕ → Type 0
+AsksForSolution words workers = (instance : List ℕ) × (solution : List ℕ) × (certificate : List ℕ) × (turns : ℕ) × (seed : ℕ) × (flips : Option ℕ) × Asks words (Solve instance solution certificate workers turns seed flips)
+
+-- the words ask for workers
+abbrev pub AsksForWorkers : List (List ℕ) → Type 0
+AsksForWorkers words = (workers : ℕ) × (0 < workers) × AsksForSolution words workers
+
 -- the words ask for a solution with a number of flips that is given, and that is less than the pairs of points of the instance that the bytes under the name spell
 abbrev pub AllowsFewFlips : List (List ℕ) → Option Held → Type 0
 AllowsFewFlips words held =
@@ -371,6 +380,16 @@ SolveWrites words old new Holds =
     × MayHold old first bytes × SpellsInstance bytes instance × MayHold new second (text_of solution) × MayHold new third (cert_text cert)
     × Holds instance (order_of instance (record { workers = workers; turns = turns; seed = seed; flips = flips })) solution cert written
 
+-- whatever the interleaving of the workers: a replayable book, a settled plan, a best assignment over earned rows, journal lines that are answers of turns and then moves of settling, few turns of workers that came too late, and no plan of the instance with a total below the bound
+abbrev pub WritesHeadline : List (List ℕ) → Option Held → Option Held → Type 0
+WritesHeadline words old new = SolveWrites words old new (λ instance order solution cert written.
+    IsReplayable instance written.opening written.end solution cert
+    × IsSettled instance.points written.end
+    × HasBestAssignment instance (log_budget (length instance.inputs)) cert
+    × AreAnswersThenSettling instance order written.opening written.end written.lines written.made cert
+    × (0 < order.workers → AreLinesOfWorkers order.workers (turns_for instance order) instance.points instance.inputs written.opening written.lines)
+    × IsBelowPlans instance cert.bound)
+
 -- each held schedule replays from its input to the centre, and the total is the number of those rounds: the journal is legal from the opening, and leads to the plan that is written
 abbrev pub WritesReplayableBook : List (List ℕ) → Option Held → Option Held → Type 0
 WritesReplayableBook words old new = SolveWrites words old new (λ instance order solution cert written. IsReplayable instance written.opening written.end solution cert)
@@ -387,9 +406,13 @@ WritesBestAssignment words old new = SolveWrites words old new (λ instance orde
 abbrev pub WritesAnswersThenSettling : List (List ℕ) → Option Held → Option Held → Type 0
 WritesAnswersThenSettling words old new = SolveWrites words old new (λ instance order solution cert written. AreAnswersThenSettling instance order written.opening written.end written.lines written.made cert)
 
--- the turns of the lines ascend, and none is missed
+-- where no worker is asked for, the turns of the lines ascend, and none is missed
 abbrev pub WritesTurnsInOrder : List (List ℕ) → Option Held → Option Held → Type 0
-WritesTurnsInOrder words old new = SolveWrites words old new (λ instance order solution cert written. AreLinesInOrder (turns_for instance order) instance.points instance.inputs written.opening written.lines)
+WritesTurnsInOrder words old new = SolveWrites words old new (λ instance order solution cert written. order.workers ≡ 0 → AreLinesInOrder (turns_for instance order) instance.points instance.inputs written.opening written.lines)
+
+-- with workers, each improver's turn without a line had no better answer on the plan after some lines, or came too late with it; and for each line at most one turn of each other worker came too late
+abbrev pub WritesFewLateTurns : List (List ℕ) → Option Held → Option Held → Type 0
+WritesFewLateTurns words old new = SolveWrites words old new (λ instance order solution cert written. 0 < order.workers → AreLinesOfWorkers order.workers (turns_for instance order) instance.points instance.inputs written.opening written.lines)
 
 -- the total is that of the solution, and no plan of the instance has a total below the bound
 abbrev pub WritesProvedBound : List (List ℕ) → Option Held → Option Held → Type 0

@@ -5,18 +5,23 @@ ghost use Rattle.centre_run.specs.declared.status.Status.{Status};
 ghost use Rattle.centre_run.specs.Statuses.{number_of};
 ghost use Rattle.centre_run.specs.Ends.{IsEnd};
 
-use crate::run::run_plain;
+use crate::top::run;
 use host_io::{Sink, Store};
 use std::alloc::Global;
+use std::sync::Wait;
+use std::thread::Threads;
+use worker_crew::Gate;
 
 /// Does what the words ask for, and answers the number of the status that the run ends with.
 ///
 /// `words` are those after the program's name.
-pub fn end_number<S: Store, O: Sink>(
+pub fn end_number<R: Threads + Wait + Sync, S: Store, O: Sink, G: Gate + Sync>(
+    rt: &R,
     alloc: Global,
     words: &[String],
     store: &mut S,
     out: &mut O,
+    gate: &G,
 ) -> u8
     ensures { (status : Status) × (result ≡ number_of status) × IsEnd (texts words.now)
         (record { held = S.held store.old; read_faults = S.read_faults store.old; write_faults = S.write_faults store.old; calls = S.calls store.old })
@@ -25,5 +30,5 @@ pub fn end_number<S: Store, O: Sink>(
         (record { told = O.told out.new; faults = O.faults out.new })
         status }
 {
-    run_plain(alloc, words, store, out).number()
+    run(rt, alloc, words, store, out, gate).number()
 }

@@ -4,14 +4,14 @@
 mod checking;
 mod ending;
 mod reply;
-mod run;
 mod scoring;
 mod solving;
 mod status;
 mod threads;
+mod top;
 mod tracing;
 mod verifying;
 
 pub use ending::end_number;
-pub use run::run_plain;
 pub use status::Status;
+pub use top::{run, run_plain};

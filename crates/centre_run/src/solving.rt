@@ -10,12 +10,14 @@ ghost use Rattle.cert_text.specs.Forms as cert_form;
 ghost use Rattle.centre_words.specs.declared.asked.Asked.TheVariants.{Solve};
 ghost use Rattle.printed_lines.specs.Lines.{solved_line};
 ghost use Rattle.centre_run.specs.Orders.{order_of};
+ghost use Rattle.book_solve.specs.declared.order.Order.{Order};
+ghost use Rattle.centre_run.specs.Solvers.{IsFound};
 ghost use Rattle.centre_run.specs.Calls.{after_writing, CallsFor, StopsReading, StopsWriting};
 ghost use Rattle.centre_run.specs.Runs.{OrderSays, SolveSays, HasWritten, HasBegun, HasBrokenOff, files_under, CommandDoes, CommandBegins, CommandBreaksOff, LacksFile};
 
 use crate::reply::{Quiet, Reply, read_file, with_line, write_file};
 use crate::status::Status;
-use book_cert::{Written, solve};
+use book_cert::Written;
 use book_solve::Order;
 use cert_text::{Cert, write_cert};
 use host_io::{Bytes, Store};
@@ -27,7 +29,7 @@ use std::alloc::{AllocError, Global};
 use std::sync::Arc;
 use tri_check::{CheckFault, Instance};
 
-// How many workers there are beside the caller, how many improvers take a turn, the seed that they draw from, and how many flips the run of an input may have, if a number is given.
+// How many workers take turns side by side, how many improvers take a turn, the seed that they draw from, and how many flips the run of an input may have, if a number is given.
 #[derive(Clone, Copy, Debug, PartialEq, Eq)]
 pub(crate) struct SolveOptions {
     pub(crate) workers: u32,
@@ -70,6 +72,7 @@ fn order_of(instance: &Instance, options: SolveOptions) -> Order
         flips,
         turns: options.turns,
         seed: options.seed,
+        workers: options.workers,
     }
 }
 
@@ -126,13 +129,16 @@ fn without_texts(status: Status, line: Result<String, AllocError>) -> Result<Sol
     Ok(Solved { reply, texts: None })
 }
 
-// What `solve` says of an instance.
-fn solve_instance(
+// What `solve` says of an instance, by a solver that finds what is written for an order.
+fn solve_instance<F: FnOnce(Arc<Instance>, Order) -> Result<Written, StartFault>>(
     alloc: Global,
     instance: Arc<Instance>,
     options: SolveOptions,
+    solver: F,
 ) -> Result<Solved, Quiet>
-    requires { options.turns ≤ 1_000_000 }
+    requires turns { options.turns ≤ 1_000_000 }
+    requires can { (i : _) (o : Order) → o.turns ≤ 1_000_000 → o.workers ≡ options.workers → F.pre solver i o }
+    requires finds { (i : _) (o : Order) (found : _) → F.post solver i o found → IsFound i.value o found }
     ensures says { IfOk result (λ s. OrderSays instance.value (order_of instance.value options) s.reply.status (string_bytes s.reply.line) s.texts) }
     ensures problem { IsProblem instance.value.points instance.value.inputs }
     ensures read { IsErrOf result Quiet.ReadFault → ⊥ }
@@ -140,7 +146,7 @@ fn solve_instance(
 {
     let _ = instance.count();
     let order = order_of(&instance, options);
-    match solve(alloc, instance, order) {
+    match solver(instance, order) {
         Ok(written) => found(alloc, &written),
         Err(StartFault::FlipBudget(t)) => without_texts(Status::FlipBudget, budget_text(alloc, t)),
         Err(StartFault::OutOfMemory) => Err(Quiet::Memory),
@@ -148,8 +154,15 @@ fn solve_instance(
 }
 
 // What `solve` says of the bytes of a file.
-fn solve_bytes(alloc: Global, bytes: &[u8], options: SolveOptions) -> Result<Solved, Quiet>
-    requires { options.turns ≤ 1_000_000 }
+fn solve_bytes<F: FnOnce(Arc<Instance>, Order) -> Result<Written, StartFault>>(
+    alloc: Global,
+    bytes: &[u8],
+    options: SolveOptions,
+    solver: F,
+) -> Result<Solved, Quiet>
+    requires turns { options.turns ≤ 1_000_000 }
+    requires can { (i : _) (o : Order) → o.turns ≤ 1_000_000 → o.workers ≡ options.workers → F.pre solver i o }
+    requires finds { (i : _) (o : Order) (found : _) → F.post solver i o found → IsFound i.value o found }
     ensures says { IfOk result (λ s. SolveSays bytes.now options s.reply.status (string_bytes s.reply.line) s.texts) }
     ensures read { IsErrOf result Quiet.ReadFault → ⊥ }
     ensures write { IsErrOf result Quiet.WriteFault → ⊥ }
@@ -162,7 +175,7 @@ fn solve_bytes(alloc: Global, bytes: &[u8], options: SolveOptions) -> Result<Sol
         Err(InstanceFault::OutOfMemory) => return Err(Quiet::Memory),
     };
     match Instance::check(alloc, raw) {
-        Ok(instance) => solve_instance(alloc, instance, options),
+        Ok(instance) => solve_instance(alloc, instance, options, solver),
         Err(CheckFault::Bad(bad)) => without_texts(Status::Refused, bad_text(alloc, bad)),
         Err(CheckFault::OutOfMemory) => Err(Quiet::Memory),
     }
@@ -209,14 +222,17 @@ fn write_texts<S: Store>(
 }
 
 // Reads an instance, and writes the solution that was found and its certificate, if one was, once all work is done.
-pub(crate) fn solve_file<S: Store>(
+pub(crate) fn solve_file<S: Store, F: FnOnce(Arc<Instance>, Order) -> Result<Written, StartFault>>(
     alloc: Global,
     store: &mut S,
     instance: &str,
     targets: Targets<'_>,
     options: SolveOptions,
+    solver: F,
 ) -> Result<Reply, Quiet>
-    requires { options.turns ≤ 1_000_000 }
+    requires turns { options.turns ≤ 1_000_000 }
+    requires can { (i : _) (o : Order) → o.turns ≤ 1_000_000 → o.workers ≡ options.workers → F.pre solver i o }
+    requires finds { (i : _) (o : Order) (found : _) → F.post solver i o found → IsFound i.value o found }
     ensures does { IfOk result (λ r. CommandDoes (S.held store.old) (S.held store.new) (Solve instance.now targets.entry.solution.now targets.entry.certificate.now options.workers options.turns options.seed options.flips) r.status (string_bytes r.line)) }
     ensures cause { IsErrOf result Quiet.ReadFault → Rose (S.read_faults store.old) (S.read_faults store.new)
         ⊎ LacksFile (S.held store.old) (Solve instance.now targets.entry.solution.now targets.entry.certificate.now options.workers options.turns options.seed options.flips) }
@@ -233,7 +249,7 @@ pub(crate) fn solve_file<S: Store>(
         → StopsWriting (Solve instance.now targets.entry.solution.now targets.entry.certificate.now options.workers options.turns options.seed options.flips) (S.calls store.old) (S.calls store.new) }
 {
     let bytes = read_file(alloc, store, instance)?;
-    let solved = solve_bytes(alloc, bytes.as_slice(), options)?;
+    let solved = solve_bytes(alloc, bytes.as_slice(), options, solver)?;
     write_texts(store, targets, &solved.texts)?;
     Ok(solved.reply)
 }

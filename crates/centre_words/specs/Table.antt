@@ -28,7 +28,7 @@ abbrev pub options_of : Row → List (List ℕ)
 options_of row = option_names row.items
 
 abbrev pub workers : Number
-workers = record { name = codes "workers"; most = 0; usual = Some 0 }
+workers = record { name = codes "workers"; most = 16; usual = Some 4 }
 
 abbrev pub turns : Number
 turns = record { name = codes "turns"; most = 1000000; usual = Some 64 }

@@ -17,7 +17,7 @@ pub enum Asked {
         instance: Name,
         solution: Name,
     },
-    /// A solution of an instance, and the certificate that shows its total and a bound; both are written. The workers are threads that work beside the caller; there are none yet, and the caller does all. The turns are those of improvers, which draw from the seed. No input is given more flips than the last number, where there is one.
+    /// A solution of an instance, and the certificate that shows its total and a bound; both are written. So many workers take the turns side by side; where there is none the caller takes them, in order. The turns are those of improvers, which draw from the seed. No input is given more flips than the last number, where there is one.
     Solve {
         instance: Name,
         solution: Name,

@@ -27,11 +27,11 @@ pub struct Row {
     pub items: &'static [Item],
 }
 
-// Threads beside the caller.
+// How many threads take turns side by side. Where it is 0 the caller takes them, in order.
 pub const WORKERS: Number = Number {
     name: "workers",
-    most: 0,
-    usual: Some(0),
+    most: 16,
+    usual: Some(4),
 };
 
 pub const TURNS: Number = Number {

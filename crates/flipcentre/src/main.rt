@@ -5,6 +5,7 @@ use centre_run::{Status, end_number};
 use host_io::{DirStore, StdSink};
 use std::process::ExitCode;
 use std::{env, io};
+use worker_crew::NoGate;
 
 // The words after the program's name.
 fn command_words(rt: &HostRuntime) -> io::Result<Vec<String>> {
@@ -24,5 +25,5 @@ fn main(rt: HostRuntime) -> ExitCode {
     };
     let mut store = DirStore::make(&rt);
     let mut out = StdSink::make(&rt);
-    ExitCode::from(end_number(alloc, &words, &mut store, &mut out))
+    ExitCode::from(end_number(&rt, alloc, &words, &mut store, &mut out, &NoGate))
 }

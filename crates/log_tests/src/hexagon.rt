@@ -51,7 +51,16 @@ fn verdict_on(alloc: Global, log: &str) -> Result<(Status, String), Fail> {
 fn solve_refutes_two_rounds_by_a_log_of_a_line(rt: HostRuntime) -> Result<(), Fail> {
     let mut store = MemStore::make(rt.alloc());
     store.hold("i.json", HEXAGON.as_bytes())?;
-    let words = ["solve", "i.json", "s.json", "c.txt", "--turns", "0"];
+    let words = [
+        "solve",
+        "i.json",
+        "s.json",
+        "c.txt",
+        "--workers",
+        "0",
+        "--turns",
+        "0",
+    ];
     let (_, line) = run(rt.alloc(), &mut store, &words)?;
     assert_eq!(rt; line.as_str(), "total 3 bound 3\n");
     assert!(rt; store.look("s.json") == Some(SOLUTION.as_bytes()));

@@ -29,7 +29,16 @@ fn run_in(alloc: Global, store: &mut MemStore, stalled: bool) -> Result<(Status,
     if stalled {
         out.stall_at(0)?;
     }
-    let words = ["solve", "i.json", "s.json", "c.txt", "--turns", "0"];
+    let words = [
+        "solve",
+        "i.json",
+        "s.json",
+        "c.txt",
+        "--workers",
+        "0",
+        "--turns",
+        "0",
+    ];
     let status = run_to(alloc, store, &mut out, &words)?;
     let line = text_of(alloc, out.bytes())?;
     Ok((status, line))

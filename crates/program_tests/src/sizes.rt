@@ -18,7 +18,16 @@ const SIXTY_FIVE: &str =
 
 // What a run of `solve` prints, and `verify` of what it wrote.
 fn solved(alloc: Global, store: &mut MemStore, turns: &str) -> Result<(String, String), Fail> {
-    let words = ["solve", "i.json", "s.json", "c.txt", "--turns", turns];
+    let words = [
+        "solve",
+        "i.json",
+        "s.json",
+        "c.txt",
+        "--workers",
+        "0",
+        "--turns",
+        turns,
+    ];
     let (_, line) = run_with(alloc, store, &words)?;
     let verdict = verdict(alloc, store)?;
     Ok((line, verdict))

@@ -39,7 +39,16 @@ struct Outcome {
 
 fn outcome_with(alloc: Global, instance: &str, option: &str, value: &str) -> Result<Outcome, Fail> {
     let mut store = store_with(alloc, instance)?;
-    let words = ["solve", "i.json", option, value, "s.json", "c.txt"];
+    let words = [
+        "solve",
+        "i.json",
+        option,
+        value,
+        "s.json",
+        "c.txt",
+        "--workers",
+        "0",
+    ];
     let (status, line) = run_with(alloc, &mut store, &words)?;
     let solution = text_under(alloc, &store, "s.json")?;
     let certificate = text_under(alloc, &store, "c.txt")?;
@@ -181,7 +190,7 @@ fn turns_lower_the_total(rt: HostRuntime) -> Result<(), Fail> {
 // What `score` and `verify` print of what `solve` wrote.
 fn judged(alloc: Global, instance: &str) -> Result<(String, String), Fail> {
     let mut store = store_with(alloc, instance)?;
-    let words = ["solve", "i.json", "s.json", "c.txt"];
+    let words = ["solve", "i.json", "s.json", "c.txt", "--workers", "0"];
     run_with(alloc, &mut store, &words)?;
     let words = ["score", "i.json", "s.json"];
     let (_, score) = run_with(alloc, &mut store, &words)?;
@@ -262,14 +271,17 @@ fn a_file_with_a_fault_is_refused(rt: HostRuntime) -> Result<(), Fail> {
 
 #[test]
 fn words_that_ask_for_nothing_are_refused(rt: HostRuntime) -> Result<(), Fail> {
-    let rows: [&[&str]; 7] = [
-        &["solve", "i.json", "s.json"],
-        &["solve", "i.json", "i.json", "c.txt"],
-        &["solve", "i.json", "s.json", "s.json"],
-        &["solve", "i.json", "s.json", "i.json"],
-        &["solve", "i.json", "s.json", "c.txt", "5"],
+    let rows: [&[&str]; 9] = [
+        &["solve", "i.json", "s.json", "--workers", "0"],
+        &["solve", "i.json", "i.json", "c.txt", "--workers", "0"],
+        &["solve", "i.json", "s.json", "s.json", "--workers", "0"],
+        &["solve", "i.json", "s.json", "i.json", "--workers", "0"],
+        &["solve", "i.json", "s.json", "c.txt", "5", "--workers", "0"],
+        &["solve", "i.json", "s.json", "c.txt", "--workers=0"],
+        // These ask for workers, which this call has none of.
         &["solve", "i.json", "s.json", "c.txt", "--workers", "1"],
-        &["solve", "i.json", "s.json", "c.txt", "--turns=1"],
+        &["solve", "i.json", "s.json", "c.txt", "--workers", "16"],
+        &["solve", "i.json", "s.json", "c.txt"],
     ];
     for words in rows {
         let mut store = store_with(rt.alloc(), SQUARE)?;

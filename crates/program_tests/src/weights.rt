@@ -69,7 +69,16 @@ fn totals_and_bounds_count_with_the_weights(rt: HostRuntime) -> Result<(), Fail>
         ("[2,2]", "total 2 bound 2\n"),
         ("[1,1]", "total 1 bound 1\n"),
     ];
-    let words = ["solve", "i.json", "--turns", "0", "o.json", "c.txt"];
+    let words = [
+        "solve",
+        "i.json",
+        "--workers",
+        "0",
+        "--turns",
+        "0",
+        "o.json",
+        "c.txt",
+    ];
     for (weights, solved) in rows {
         let text = square(rt.alloc(), weights)?;
         let told = line_of(rt.alloc(), text.as_str(), &words)?;
@@ -82,7 +91,7 @@ fn totals_and_bounds_count_with_the_weights(rt: HostRuntime) -> Result<(), Fail>
 fn certificates_have_a_place_for_each_copy(rt: HostRuntime) -> Result<(), Fail> {
     let text = square(rt.alloc(), "[2,2]")?;
     let mut store = store_with(rt.alloc(), text.as_str())?;
-    let words = ["solve", "i.json", "s.json", "c.txt"];
+    let words = ["solve", "i.json", "s.json", "c.txt", "--workers", "0"];
     run_with(rt.alloc(), &mut store, &words)?;
     let certificate = text_under(rt.alloc(), &store, "c.txt")?;
     assert!(rt; certificate.contains("\ninputs 2 4\nopening 2\ntotal 2\nbound 2\n"));

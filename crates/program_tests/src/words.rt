@@ -16,13 +16,19 @@ fn read(alloc: Global, line: &str) -> Result<Option<Asked>, Fail> {
     }
 }
 
-// `solve` of `q` into `s` with the certificate `c`, by the caller alone.
-fn solve(alloc: Global, turns: u32, seed: u64, flips: Option<u64>) -> Result<Option<Asked>, Fail> {
+// `solve` of `q` into `s` with the certificate `c`.
+fn solve(
+    alloc: Global,
+    workers: u32,
+    turns: u32,
+    seed: u64,
+    flips: Option<u64>,
+) -> Result<Option<Asked>, Fail> {
     Ok(Some(Asked::Solve {
         instance: Name::of(alloc, "q")?,
         solution: Name::of(alloc, "s")?,
         certificate: Name::of(alloc, "c")?,
-        workers: 0,
+        workers,
         turns,
         seed,
         flips,
@@ -33,38 +39,48 @@ fn solve(alloc: Global, turns: u32, seed: u64, flips: Option<u64>) -> Result<Opt
 fn solve_has_options_in_any_place(rt: HostRuntime) -> Result<(), Fail> {
     let alloc = rt.alloc();
     let rows = [
-        ("solve q s c", 64, 1, None),
-        ("solve q s c --workers 0", 64, 1, None),
-        ("solve q s c --turns 0", 0, 1, None),
-        ("solve --turns 1000000 q s c", 1_000_000, 1, None),
-        ("solve q --seed 0 s c", 64, 0, None),
-        ("solve q s --workers 00 c", 64, 1, None),
+        ("solve q s c", 4, 64, 1, None),
+        ("solve q s c --workers 0", 0, 64, 1, None),
+        ("solve q s c --workers 16", 16, 64, 1, None),
+        ("solve q s c --turns 0", 4, 0, 1, None),
+        ("solve --turns 1000000 q s c", 4, 1_000_000, 1, None),
+        ("solve q --seed 0 s c", 4, 64, 0, None),
+        ("solve q s --workers 00 c", 0, 64, 1, None),
         (
             "solve q s c --seed 18446744073709551615",
+            4,
             64,
             u64::MAX,
             None,
         ),
-        ("solve q s c --flips 0", 64, 1, Some(0)),
-        ("solve q s --flips 1000000000 c", 64, 1, Some(1_000_000_000)),
+        ("solve q s c --flips 0", 4, 64, 1, Some(0)),
         (
-            "solve --flips 7 q --seed 5 s --workers 0 c --turns 3",
+            "solve q s --flips 1000000000 c",
+            4,
+            64,
+            1,
+            Some(1_000_000_000),
+        ),
+        (
+            "solve --flips 7 q --seed 5 s --workers 1 c --turns 3",
+            1,
             3,
             5,
             Some(7),
         ),
         (
             "solve --workers 0 --seed 5 --turns 3 q s c --flips 7",
+            0,
             3,
             5,
             Some(7),
         ),
-        ("solve q s c --turns 00000000000000000003", 3, 1, None),
+        ("solve q s c --turns 00000000000000000003", 4, 3, 1, None),
     ];
-    for (line, turns, seed, flips) in rows {
+    for (line, workers, turns, seed, flips) in rows {
         assert_eq!(rt;
             read(alloc, line)?,
-            solve(alloc, turns, seed, flips)?,
+            solve(alloc, workers, turns, seed, flips)?,
             "{line}"
         );
     }
@@ -97,9 +113,9 @@ fn solve_has_three_names_that_differ(rt: HostRuntime) -> Result<(), Fail> {
 }
 
 #[test]
-fn solve_has_no_workers_yet(rt: HostRuntime) -> Result<(), Fail> {
+fn solve_has_sixteen_workers_at_most(rt: HostRuntime) -> Result<(), Fail> {
     let rows = [
-        "solve q s c --workers 1",
+        "solve q s c --workers 17",
         "solve q s c --workers x",
         "solve q s c --workers -1",
         "solve q s c --workers +0",

@@ -2,8 +2,8 @@ use Rattle.centre_run.proofs.ending.end_number.Goals as goal
 
 pub returns : goal.returns
 returns g c =
-    let run = c.run_plain.ensures in (
-      c.run_plain.result,
+    let run = c.run.ensures in (
+      c.run.result,
       c.number.ensures,
       record {
         done = run.done;
@@ -13,11 +13,13 @@ returns g c =
         budget_is_short = run.budget_is_short;
         no = run.no;
         no_by_verify = run.no_by_verify;
+        headline = run.headline;
         replayable_book = run.replayable_book;
         settled = run.settled;
         best_assignment = run.best_assignment;
         answers_then_settling = run.answers_then_settling;
         turns_in_order = run.turns_in_order;
+        late_turns_are_few = run.late_turns_are_few;
         bound_below_plans = run.bound_below_plans;
         verifies = run.verifies;
         memory = λ is. (run.memory is, run.memory_kept is);

@@ -1,11 +1,15 @@
 // The top call: from the words to the status and the printed line.
-ghost use Rattle.std.specs.Prelude.{◌≡◌, ◌⊎◌, IfOk, IsErrOf, string_bytes};
+ghost use Rattle.std.specs.Prelude.{◌≡◌, ◌⊎◌, ◌↔◌, ◌≤◌, ℕ, IfOk, IsErrOf, IsTrue, string_bytes};
+ghost use denote.Param.Send.{IsSync};
 ghost use Rattle.host_io.specs.Store.{Rose};
 ghost use Rattle.printed_lines.specs.Lines.{words_line};
 ghost use Rattle.centre_words.specs.Words.{texts, Asks, IsUnasked};
 ghost use Rattle.centre_words.specs.declared.asked.Asked.{Asked};
+ghost use Rattle.book_solve.specs.declared.order.Order.{Order};
 ghost use Rattle.centre_run.specs.Calls.{CallsFor, CallsInOrder};
-ghost use Rattle.centre_run.specs.Runs.{Does, Begins, BreaksOff, KeepsOthers, IsReadOnly, HasReadCause, CallsOnce, IsFaultless, Completes, Tells, TellsPart, AsksToVerify, AllowsFewFlips, WritesReplayableBook, WritesSettledPlan, WritesBestAssignment, WritesAnswersThenSettling, WritesTurnsInOrder, WritesProvedBound, WritesWhatVerifies};
+ghost use Rattle.centre_run.specs.Ends.{IsEnd, IsRefusal, IsPut};
+ghost use Rattle.centre_run.specs.Solvers.{IsFound};
+ghost use Rattle.centre_run.specs.Runs.{Does, Begins, BreaksOff, KeepsOthers, IsReadOnly, HasReadCause, CallsOnce, IsFaultless, Completes, Tells, TellsPart, AsksToVerify, AllowsFewFlips, WritesHeadline, WritesReplayableBook, WritesSettledPlan, WritesBestAssignment, WritesAnswersThenSettling, WritesTurnsInOrder, WritesFewLateTurns, WritesProvedBound, WritesWhatVerifies, AsksForSolution, AsksForWorkers};
 
 use crate::checking::check_file;
 use crate::reply::{Quiet, Reply, with_line};
@@ -14,10 +18,17 @@ use crate::solving::{SolveOptions, Targets, solve_file};
 use crate::status::Status;
 use crate::tracing::trace_file;
 use crate::verifying::verify_files;
+use book_cert::{Written, write_alone, write_together};
+use book_solve::Order;
 use centre_words::{Asked, WordsFault, read_words};
 use host_io::{Sink, Store, put_all};
+use lawson_start::StartFault;
 use printed_lines::words_text;
-use std::alloc::Global;
+use std::alloc::{AllocError, Global};
+use std::sync::{Arc, Wait};
+use std::thread::Threads;
+use tri_check::Instance;
+use worker_crew::Gate;
 
 // What is said of words that are those of no command.
 fn words_reply(alloc: Global) -> Result<Reply, Quiet>
@@ -29,7 +40,14 @@ fn words_reply(alloc: Global) -> Result<Reply, Quiet>
 }
 
 // Does what the words call for, all but the printing.
-fn reply_to<S: Store>(alloc: Global, words: &[String], store: &mut S) -> Result<Reply, Quiet>
+fn reply_to<S: Store, F: FnOnce(Arc<Instance>, Order) -> Result<Written, StartFault>>(
+    alloc: Global,
+    words: &[String],
+    store: &mut S,
+    solver: F,
+) -> Result<Reply, Quiet>
+    requires can { (workers : ℕ) → AsksForSolution (texts words.now) workers → (i : _) (o : Order) → o.turns ≤ 1_000_000 → o.workers ≡ workers → F.pre solver i o }
+    requires finds { (i : _) (o : Order) (found : _) → F.post solver i o found → IsFound i.value o found }
     ensures does { IfOk result (λ r. Does (texts words.now) (S.held store.old) (S.held store.new) r.status (string_bytes r.line)) }
     ensures cause { IsErrOf result Quiet.ReadFault
         → HasReadCause (texts words.now) (S.held store.old) (S.read_faults store.old) (S.read_faults store.new) }
@@ -74,7 +92,7 @@ fn reply_to<S: Store>(alloc: Global, words: &[String], store: &mut S) -> Result<
                 seed,
                 flips,
             };
-            solve_file(alloc, store, instance.text(), targets, options)
+            solve_file(alloc, store, instance.text(), targets, options, solver)
         }
         Ok(
             Asked::Verify {
@@ -95,14 +113,73 @@ fn reply_to<S: Store>(alloc: Global, words: &[String], store: &mut S) -> Result<
     }
 }
 
-/// Does what the words ask for: reads and writes the files that they name, and puts one line.
-///
-/// `words` are those after the program's name.
-pub fn run_plain<S: Store, O: Sink>(
+// Puts the line of a reply, and answers how the run ends.
+fn put_reply<O: Sink>(out: &mut O, reply: Result<Reply, Quiet>) -> Status
+    ensures { IsPut (record { told = O.told out.old; faults = O.faults out.old }) (record { told = O.told out.new; faults = O.faults out.new }) reply result }
+{
+    let reply = match reply {
+        Ok(reply) => reply,
+        Err(Quiet::Memory) => return Status::Memory,
+        Err(Quiet::ReadFault) => return Status::ReadFault,
+        Err(Quiet::WriteFault) => return Status::WriteFault,
+    };
+    match put_all(out, reply.line.as_bytes()) {
+        Ok(()) => {}
+        Err(_) => return Status::WriteFault,
+    }
+    reply.status
+}
+
+// Does what the words ask for, with a solver for `solve`.
+fn run_by<S: Store, O: Sink, F: FnOnce(Arc<Instance>, Order) -> Result<Written, StartFault>>(
     alloc: Global,
     words: &[String],
     store: &mut S,
     out: &mut O,
+    solver: F,
+) -> Status
+    requires can { (workers : ℕ) → AsksForSolution (texts words.now) workers → (i : _) (o : Order) → o.turns ≤ 1_000_000 → o.workers ≡ workers → F.pre solver i o }
+    requires finds { (i : _) (o : Order) (found : _) → F.post solver i o found → IsFound i.value o found }
+    ensures { IsEnd (texts words.now)
+        (record { held = S.held store.old; read_faults = S.read_faults store.old; write_faults = S.write_faults store.old; calls = S.calls store.old })
+        (record { held = S.held store.new; read_faults = S.read_faults store.new; write_faults = S.write_faults store.new; calls = S.calls store.new })
+        (record { told = O.told out.old; faults = O.faults out.old })
+        (record { told = O.told out.new; faults = O.faults out.new })
+        result }
+{
+    let reply = reply_to(alloc, words, store, solver);
+    put_reply(out, reply)
+}
+
+// What is written for an order, by as many workers as it asks for.
+fn write_by<R: Threads + Wait + Sync, G: Gate + Sync>(
+    rt: &R,
+    alloc: Global,
+    instance: Arc<Instance>,
+    order: Order,
+    gate: &G,
+) -> Result<Written, StartFault>
+    requires turns { order.turns ≤ 1_000_000 }
+    requires workers { order.workers ≤ 16 }
+    ensures { IsFound instance.value order result }
+{
+    if order.workers == 0 {
+        write_alone(alloc, instance, order)
+    } else {
+        write_together(rt, alloc, instance, order, gate)
+    }
+}
+
+/// Does what the words ask for: reads and writes the files that they name, and puts one line. Where they ask for workers it waits for them, and the gate is called before each turn.
+///
+/// `words` are those after the program's name.
+pub fn run<R: Threads + Wait + Sync, S: Store, O: Sink, G: Gate + Sync>(
+    rt: &R,
+    alloc: Global,
+    words: &[String],
+    store: &mut S,
+    out: &mut O,
+    gate: &G,
 ) -> Status
     // 0: what the command asks of the files holds, its files were written, and the line that says so was put.
     ensures done { result ≡ Status.Done
@@ -122,12 +199,15 @@ pub fn run_plain<S: Store, O: Sink>(
     ensures no { result ≡ Status.No
         → Tells (texts words.now) (S.held store.old) (S.held store.new) Status.No (O.told out.old) (O.told out.new) }
     ensures no_by_verify { result ≡ Status.No → AsksToVerify (texts words.now) }
-    // What `solve` writes: a replayable book; its plan is settled; a best assignment over earned rows; each journal line a turn's answer or a move of settling; the turns in order, and none missed; and the bound is above no plan's total. `verify` says yes of it, with the same numbers.
+    // What `solve` writes: a replayable book; its plan is settled; a best assignment over earned rows; each journal line a turn's answer or a move of settling; where no worker is asked for the turns in order, and none missed, and else few that came too late; and the bound is above no plan's total. `verify` says yes of it, with the same numbers.
+    // Whatever the interleaving of the workers, all of it but `verify`.
+    ensures headline { result ≡ Status.Done → WritesHeadline (texts words.now) (S.held store.old) (S.held store.new) }
     ensures replayable_book { result ≡ Status.Done → WritesReplayableBook (texts words.now) (S.held store.old) (S.held store.new) }
     ensures settled { result ≡ Status.Done → WritesSettledPlan (texts words.now) (S.held store.old) (S.held store.new) }
     ensures best_assignment { result ≡ Status.Done → WritesBestAssignment (texts words.now) (S.held store.old) (S.held store.new) }
     ensures answers_then_settling { result ≡ Status.Done → WritesAnswersThenSettling (texts words.now) (S.held store.old) (S.held store.new) }
     ensures turns_in_order { result ≡ Status.Done → WritesTurnsInOrder (texts words.now) (S.held store.old) (S.held store.new) }
+    ensures late_turns_are_few { result ≡ Status.Done → WritesFewLateTurns (texts words.now) (S.held store.old) (S.held store.new) }
     ensures bound_below_plans { result ≡ Status.Done → WritesProvedBound (texts words.now) (S.held store.old) (S.held store.new) }
     ensures verifies { result ≡ Status.Done → WritesWhatVerifies (texts words.now) (S.held store.new) (O.told out.old) (O.told out.new) }
     // 4: free, and nothing was put. Nothing was written before the work was done, and then whole files alone, in order.
@@ -158,15 +238,67 @@ pub fn run_plain<S: Store, O: Sink>(
     ensures in_order { CallsInOrder (texts words.now) (S.held store.old) (Rose (S.read_faults store.old) (S.read_faults store.new)) result (S.calls store.old) (S.calls store.new) }
     ensures uncalled { IsUnasked (texts words.now) → S.calls store.new ≡ S.calls store.old }
 {
-    let reply = match reply_to(alloc, words, store) {
-        Ok(reply) => reply,
-        Err(Quiet::Memory) => return Status::Memory,
-        Err(Quiet::ReadFault) => return Status::ReadFault,
-        Err(Quiet::WriteFault) => return Status::WriteFault,
-    };
-    match put_all(out, reply.line.as_bytes()) {
-        Ok(()) => {}
-        Err(_) => return Status::WriteFault,
+    run_by(
+        alloc,
+        words,
+        store,
+        out,
+        |instance: Arc<Instance>, order: Order| -> Result<Written, StartFault>
+            requires { (order.turns ≤ 1_000_000) × (order.workers ≤ 16) × IsSync R.row × IsSync G.row }
+            ensures { IsFound instance.value order result }
+        { write_by(rt, alloc, instance, order, gate) },
+    )
+}
+
+// Whether the words ask for workers.
+fn ask_for_workers(alloc: Global, words: &[String]) -> Result<bool, AllocError>
+    ensures { IfOk result (λ asked. (IsTrue asked) ↔ AsksForWorkers (texts words.now)) }
+{
+    match read_words(alloc, words) {
+        Ok(Asked::Solve { workers, .. }) => Ok(workers > 0),
+        Ok(Asked::Check { .. }) => Ok(false),
+        Ok(Asked::Score { .. }) => Ok(false),
+        Ok(Asked::Verify { .. }) => Ok(false),
+        Ok(Asked::Trace { .. }) => Ok(false),
+        Err(WordsFault::Words) => Ok(false),
+        Err(WordsFault::OutOfMemory) => Err(AllocError),
     }
-    reply.status
+}
+
+/// Does what the words ask for on one thread, and never waits. Words that ask for workers, as those of `solve` do where they say nothing of them, it refuses as words of no command.
+///
+/// `words` are those after the program's name.
+pub fn run_plain<S: Store, O: Sink>(
+    alloc: Global,
+    words: &[String],
+    store: &mut S,
+    out: &mut O,
+) -> Status
+    ensures plain { ¬ AsksForWorkers (texts words.now) → IsEnd (texts words.now)
+        (record { held = S.held store.old; read_faults = S.read_faults store.old; write_faults = S.write_faults store.old; calls = S.calls store.old })
+        (record { held = S.held store.new; read_faults = S.read_faults store.new; write_faults = S.write_faults store.new; calls = S.calls store.new })
+        (record { told = O.told out.old; faults = O.faults out.old })
+        (record { told = O.told out.new; faults = O.faults out.new })
+        result }
+    ensures workers { AsksForWorkers (texts words.now) → IsRefusal
+        (record { held = S.held store.old; read_faults = S.read_faults store.old; write_faults = S.write_faults store.old; calls = S.calls store.old })
+        (record { held = S.held store.new; read_faults = S.read_faults store.new; write_faults = S.write_faults store.new; calls = S.calls store.new })
+        (record { told = O.told out.old; faults = O.faults out.old })
+        (record { told = O.told out.new; faults = O.faults out.new })
+        result }
+{
+    match ask_for_workers(alloc, words) {
+        Ok(true) => put_reply(out, words_reply(alloc)),
+        Ok(false) => run_by(
+            alloc,
+            words,
+            store,
+            out,
+            |instance: Arc<Instance>, order: Order| -> Result<Written, StartFault>
+                requires { (order.turns ≤ 1_000_000) × (order.workers ≡ 0) }
+                ensures { IsFound instance.value order result }
+            { write_alone(alloc, instance, order) },
+        ),
+        Err(_) => Status::Memory,
+    }
 }

@@ -10,7 +10,7 @@ use Rattle.centre_run.specs.Calls.{CallsFor, CommandCalls}
 use Rattle.centre_run.proofs.Calling.{of_asked, check_calls, trace_calls}
 use Rattle.centre_words.specs.declared.asked.Asked.{Asked}
 use Rattle.centre_run.proofs.Saying.{command_does, command_breaks_off, words_does, verify_asked, solve_words, command_begins}
-use Rattle.centre_run.proofs.run.reply_to.Goals as goal
+use Rattle.centre_run.proofs.top.reply_to.Goals as goal
 
 pub returns-in-Ok-Check-clause-does : goal.returns-in-Ok-Check-clause-does
 returns-in-Ok-Check-clause-does g c =
