@@ -85,7 +85,7 @@ def run(folder, words):
 def solve(folder, turns):
     """The total and the bound with so many turns, and the time that it takes."""
     names = ["instance.json", "solution.json", "certificate.txt"]
-    line, took = run(folder, ["solve", *names, "--turns", str(turns)])
+    line, took = run(folder, ["solve", *names, "--workers", "0", "--turns", str(turns)])
     verdict, _ = run(folder, ["verify", *names])
     if verdict != ["yes", *line]:
         raise SystemExit(f"solve says {line}, and verify says {verdict}")

@@ -410,7 +410,7 @@ WritesAnswersThenSettling words old new = SolveWrites words old new (λ instance
 abbrev pub WritesTurnsInOrder : List (List ℕ) → Option Held → Option Held → Type 0
 WritesTurnsInOrder words old new = SolveWrites words old new (λ instance order solution cert written. order.workers ≡ 0 → AreLinesInOrder (turns_for instance order) instance.points instance.inputs written.opening written.lines)
 
--- with workers, each improver's turn without a line had no better answer on the plan after some lines, or came too late with it; and for each line at most one turn of each other worker came too late
+-- with workers, each improver's turn without a line had no better answer on the plan after some lines, or came too late with it; and of those that never fell short there are at most workers - 1 times as many as lines
 abbrev pub WritesFewLateTurns : List (List ℕ) → Option Held → Option Held → Type 0
 WritesFewLateTurns words old new = SolveWrites words old new (λ instance order solution cert written. 0 < order.workers → AreLinesOfWorkers order.workers (turns_for instance order) instance.points instance.inputs written.opening written.lines)
 

@@ -20,7 +20,7 @@ abbrev pub is_stale : Outcome → Bool
 is_stale (Stale base front) = true
 is_stale _ = false
 
--- the outcomes fit the journal, each entry is that of exactly one turn, and what the turns saved is what the total fell by. For each move or swap that was made, at most one of each other worker came too late
+-- the outcomes fit the journal, each entry is that of exactly one turn, and what the turns saved is what the total fell by. Those that came too late are at most workers - 1 times as many as the moves and swaps that were made
 pub record AreTurnsOfWorkers (workers : ℕ) (limits : Limits) (frame : HeldFrame) (ground : HeldPlan) (journal : List Entry) (outcomes : List Outcome) : Type 0 where
   pub turns : AreTurns limits frame ground journal outcomes
   -- the moves and swaps of the journal are those that were made
