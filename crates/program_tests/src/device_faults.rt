@@ -1,7 +1,6 @@
 // Runs of `solve` over a store and a sink that fail in mid-course: how they end, and what stands under the names then.
-use crate::runs::{line_sink, run_to, store_with, text_of, text_under};
+use crate::runs::{line_sink, must_leave, outcome_in, run_to, run_with, store_with};
 use centre_run::Status;
-use host_io::MemStore;
 use std::alloc::Global;
 use std::test::Fail;
 
@@ -14,100 +13,69 @@ const SOLUTION: &str =
 const CERTIFICATE: &str =
     "flipcentre-certificate 3\nuid 51\ninputs 2 2\nopening 1\ntotal 1\nbound 1\njournal 0\nrows 1\nrow 0 1 1\ncrosses first 0 2 1\nmet 1\nround 0 2\npack 1 0\nend\n";
 
-// How a run ends, what it puts, and what stands under the two names then.
-#[derive(Drop)]
-struct Outcome {
+// The words of a run without turns.
+const WORDS: [&str; 8] = [
+    "solve",
+    "i.json",
+    "s.json",
+    "c.txt",
+    "--workers",
+    "0",
+    "--turns",
+    "0",
+];
+
+// A run ends so and leaves these where a call of the store fails. If it is a write, the first five bytes are held.
+fn must_fail_at(
+    alloc: Global,
+    call: u64,
     status: Status,
-    line: String,
-    solution: String,
-    certificate: String,
-}
-
-// A run in this store, where the sink takes nothing if it is stalled.
-fn run_in(alloc: Global, store: &mut MemStore, stalled: bool) -> Result<(Status, String), Fail> {
-    let mut out = line_sink(alloc)?;
-    if stalled {
-        out.stall_at(0)?;
-    }
-    let words = [
-        "solve",
-        "i.json",
-        "s.json",
-        "c.txt",
-        "--workers",
-        "0",
-        "--turns",
-        "0",
-    ];
-    let status = run_to(alloc, store, &mut out, &words)?;
-    let line = text_of(alloc, out.bytes())?;
-    Ok((status, line))
-}
-
-fn outcome_in(alloc: Global, mut store: MemStore, stalled: bool) -> Result<Outcome, Fail> {
-    let (status, line) = run_in(alloc, &mut store, stalled)?;
-    let solution = text_under(alloc, &store, "s.json")?;
-    let certificate = text_under(alloc, &store, "c.txt")?;
-    Ok(Outcome {
-        status,
-        line,
-        solution,
-        certificate,
-    })
-}
-
-// The outcome where a call of the store fails. If it is a write, the first five bytes are held.
-fn outcome_failing_at(alloc: Global, call: u64) -> Result<Outcome, Fail> {
+    solution: &str,
+    certificate: &str,
+) -> Result<(), Fail> {
     let mut store = store_with(alloc, SQUARE)?;
     store.fail_at(call, 5)?;
-    outcome_in(alloc, store, false)
+    let (found, line) = run_with(alloc, &mut store, &WORDS)?;
+    let end = outcome_in(alloc, &store, found, line)?;
+    let wanted = if status == Status::Done {
+        "total 1 bound 1\n"
+    } else {
+        ""
+    };
+    must_leave(&end, status, wanted, solution, certificate)
 }
 
 #[test]
 fn a_read_that_fails_is_a_read_fault(rt: HostRuntime) -> Result<(), Fail> {
-    let end = outcome_failing_at(rt.alloc(), 0)?;
-    assert_eq!(rt; end.status, Status::ReadFault);
-    assert!(rt; end.line.is_empty());
-    assert!(rt; end.solution.is_empty() && end.certificate.is_empty());
-    Ok(())
+    must_fail_at(rt.alloc(), 0, Status::ReadFault, "", "")
 }
 
 #[test]
 fn a_solution_that_breaks_off_is_a_write_fault(rt: HostRuntime) -> Result<(), Fail> {
-    let end = outcome_failing_at(rt.alloc(), 1)?;
-    assert_eq!(rt; end.status, Status::WriteFault);
-    assert!(rt; end.line.is_empty());
-    assert_eq!(rt; end.solution.as_str(), r#"{"con"#);
-    assert!(rt; end.certificate.is_empty());
-    Ok(())
+    must_fail_at(rt.alloc(), 1, Status::WriteFault, r#"{"con"#, "")
 }
 
 #[test]
 fn a_certificate_that_breaks_off_is_a_write_fault(rt: HostRuntime) -> Result<(), Fail> {
-    let end = outcome_failing_at(rt.alloc(), 2)?;
-    assert_eq!(rt; end.status, Status::WriteFault);
-    assert!(rt; end.line.is_empty());
-    assert_eq!(rt; end.solution.as_str(), SOLUTION);
-    assert_eq!(rt; end.certificate.as_str(), "flipc");
-    Ok(())
+    must_fail_at(rt.alloc(), 2, Status::WriteFault, SOLUTION, "flipc")
+}
+
+// A run whose sink takes nothing is a write fault, and leaves these.
+fn must_stall(alloc: Global, solution: &str, certificate: &str) -> Result<(), Fail> {
+    let mut store = store_with(alloc, SQUARE)?;
+    let mut out = line_sink(alloc)?;
+    out.stall_at(0)?;
+    let (found, line) = run_to(alloc, &mut store, out, &WORDS)?;
+    let end = outcome_in(alloc, &store, found, line)?;
+    must_leave(&end, Status::WriteFault, "", solution, certificate)
 }
 
 #[test]
 fn a_line_that_is_not_taken_is_a_write_fault(rt: HostRuntime) -> Result<(), Fail> {
-    let store = store_with(rt.alloc(), SQUARE)?;
-    let end = outcome_in(rt.alloc(), store, true)?;
-    assert_eq!(rt; end.status, Status::WriteFault);
-    assert!(rt; end.line.is_empty());
-    assert_eq!(rt; end.solution.as_str(), SOLUTION);
-    assert_eq!(rt; end.certificate.as_str(), CERTIFICATE);
-    Ok(())
+    must_stall(rt.alloc(), SOLUTION, CERTIFICATE)
 }
 
 #[test]
 fn a_store_is_called_three_times(rt: HostRuntime) -> Result<(), Fail> {
-    let end = outcome_failing_at(rt.alloc(), 3)?;
-    assert_eq!(rt; end.status, Status::Done);
-    assert_eq!(rt; end.line.as_str(), "total 1 bound 1\n");
-    assert_eq!(rt; end.certificate.as_str(), CERTIFICATE);
-    Ok(())
+    must_fail_at(rt.alloc(), 3, Status::Done, SOLUTION, CERTIFICATE)
 }

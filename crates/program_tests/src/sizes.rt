@@ -1,5 +1,5 @@
 // Larger instances: with ample memory no command ends for want of it.
-use crate::runs::{run_with, store_with, text_under, verdict};
+use crate::runs::{SCORE, VERIFY, must_print, must_say, run_with, store_with, text_under};
 use host_io::MemStore;
 use std::alloc::{AllocError, Global};
 use std::test::Fail;
@@ -16,8 +16,15 @@ const SIXTY_FOUR: &str =
 const SIXTY_FIVE: &str =
     r#"{"instance_uid":"sixty five","points_x":[0,1,2,3,4,5,6,7,8,9,10,11,12,13,14,15,16,17,18,19,20,21,22,23,24,25,26,27,28,29,30,31,32,33,34,35,36,37,38,39,40,41,42,43,44,45,46,47,48,49,50,51,52,53,54,55,56,57,58,59,60,61,62,63,64],"points_y":[0,1,4,9,16,25,36,49,64,81,100,121,144,169,196,225,256,289,324,361,400,441,484,529,576,625,676,729,784,841,900,961,1024,1089,1156,1225,1296,1369,1444,1521,1600,1681,1764,1849,1936,2025,2116,2209,2304,2401,2500,2601,2704,2809,2916,3025,3136,3249,3364,3481,3600,3721,3844,3969,4096],"triangulations":[[[0,2],[0,3],[0,4],[0,5],[0,6],[0,7],[0,8],[0,9],[0,10],[0,11],[0,12],[0,13],[0,14],[0,15],[0,16],[0,17],[0,18],[0,19],[0,20],[0,21],[0,22],[0,23],[0,24],[0,25],[0,26],[0,27],[0,28],[0,29],[0,30],[0,31],[0,32],[0,33],[0,34],[0,35],[0,36],[0,37],[0,38],[0,39],[0,40],[0,41],[0,42],[0,43],[0,44],[0,45],[0,46],[0,47],[0,48],[0,49],[0,50],[0,51],[0,52],[0,53],[0,54],[0,55],[0,56],[0,57],[0,58],[0,59],[0,60],[0,61],[0,62],[0,63]],[[1,3],[1,4],[1,5],[1,6],[1,7],[1,8],[1,9],[1,10],[1,11],[1,12],[1,13],[1,14],[1,15],[1,16],[1,17],[1,18],[1,19],[1,20],[1,21],[1,22],[1,23],[1,24],[1,25],[1,26],[1,27],[1,28],[1,29],[1,30],[1,31],[1,32],[1,33],[1,34],[1,35],[1,36],[1,37],[1,38],[1,39],[1,40],[1,41],[1,42],[1,43],[1,44],[1,45],[1,46],[1,47],[1,48],[1,49],[1,50],[1,51],[1,52],[1,53],[1,54],[1,55],[1,56],[1,57],[1,58],[1,59],[1,60],[1,61],[1,62],[1,63],[1,64]]]}"#;
 
-// What a run of `solve` prints, and `verify` of what it wrote.
-fn solved(alloc: Global, store: &mut MemStore, turns: &str) -> Result<(String, String), Fail> {
+// The line that says yes to the total and the bound of another line.
+fn yes(alloc: Global, line: &str) -> Result<String, AllocError> {
+    let mut text = String::from_str(alloc, "yes ")?;
+    text.push_str(line)?;
+    Ok(text)
+}
+
+// The line that a run of `solve` prints, where `verify` says yes to what it wrote.
+fn solved(alloc: Global, store: &mut MemStore, turns: &str) -> Result<String, Fail> {
     let words = [
         "solve",
         "i.json",
@@ -29,50 +36,49 @@ fn solved(alloc: Global, store: &mut MemStore, turns: &str) -> Result<(String, S
         turns,
     ];
     let (_, line) = run_with(alloc, store, &words)?;
-    let verdict = verdict(alloc, store)?;
-    Ok((line, verdict))
+    let verdict = yes(alloc, line.as_str())?;
+    must_print(alloc, store, &VERIFY, verdict.as_str())?;
+    Ok(line)
 }
 
-// The line that says yes to the total and the bound of another line.
-fn yes(alloc: Global, line: &str) -> Result<String, AllocError> {
-    let mut text = String::from_str(alloc, "yes ")?;
-    text.push_str(line)?;
-    Ok(text)
+// A store with this instance, of which `check` prints this.
+fn checked(alloc: Global, instance: &str, line: &str) -> Result<MemStore, Fail> {
+    let mut store = store_with(alloc, instance)?;
+    must_print(alloc, &mut store, &["check", "i.json"], line)?;
+    Ok(store)
 }
 
 #[test]
 fn fifty_points_meet_no_want_of_memory(rt: HostRuntime) -> Result<(), Fail> {
-    let mut store = store_with(rt.alloc(), FIFTY)?;
-    let (_, valid) = run_with(rt.alloc(), &mut store, &["check", "i.json"])?;
-    assert_eq!(rt; valid.as_str(), "valid points 50 inputs 5\n");
-    let (line, verdict) = solved(rt.alloc(), &mut store, "64")?;
+    let mut store = checked(rt.alloc(), FIFTY, "valid points 50 inputs 5\n")?;
+    let line = solved(rt.alloc(), &mut store, "64")?;
     assert!(rt; line.starts_with("total 36 bound "));
-    assert_eq!(rt; verdict, yes(rt.alloc(), line.as_str())?);
-    let (_, score) = run_with(rt.alloc(), &mut store, &["score", "i.json", "s.json"])?;
-    assert_eq!(rt; score.as_str(), "total 36\n");
-    Ok(())
+    must_print(rt.alloc(), &mut store, &SCORE, "total 36\n")
+}
+
+// What `solve` without turns prints, and the certificate that it writes.
+fn bounded(alloc: Global, instance: &str) -> Result<(String, String), Fail> {
+    let mut store = store_with(alloc, instance)?;
+    let line = solved(alloc, &mut store, "0")?;
+    Ok((line, text_under(alloc, &store, "c.txt")?))
 }
 
 // The pruned formulas of 6 to 8 rounds are refuted by unit steps alone, and that of 9 rounds is too large.
 #[test]
 fn sixty_four_points_are_bounded_by_formulas(rt: HostRuntime) -> Result<(), Fail> {
-    let mut store = store_with(rt.alloc(), SIXTY_FOUR)?;
-    let (line, verdict) = solved(rt.alloc(), &mut store, "0")?;
+    let (line, certificate) = bounded(rt.alloc(), SIXTY_FOUR)?;
     assert!(rt; line.ends_with(" bound 9\n"));
-    assert_eq!(rt; verdict, yes(rt.alloc(), line.as_str())?);
-    let certificate = text_under(rt.alloc(), &store, "c.txt")?;
-    assert!(rt; certificate.contains("\nrow 0 1 9\nrefuted 8 "));
-    assert!(rt; certificate.contains("\ntoolarge 9 1090122\npack 1 0\nend\n"));
+    assert!(rt;
+        certificate.contains("\nrow 0 1 9\nrefuted 8 ")
+            && certificate.contains("\ntoolarge 9 1090122\npack 1 0\nend\n")
+    );
     Ok(())
 }
 
 #[test]
 fn sixty_five_points_are_bounded_by_crossings(rt: HostRuntime) -> Result<(), Fail> {
-    let mut store = store_with(rt.alloc(), SIXTY_FIVE)?;
-    let (line, verdict) = solved(rt.alloc(), &mut store, "0")?;
+    let (line, certificate) = bounded(rt.alloc(), SIXTY_FIVE)?;
     assert!(rt; line.ends_with(" bound 6\n"));
-    assert_eq!(rt; verdict, yes(rt.alloc(), line.as_str())?);
-    let certificate = text_under(rt.alloc(), &store, "c.txt")?;
     assert!(rt;
         certificate.contains("\nrow 0 1 6\ncrosses first 0 2 62\nmanypoints 65\npack 1 0\nend\n")
     );
@@ -92,14 +98,15 @@ fn twenty_inputs(alloc: Global) -> Result<String, Fail> {
     Ok(text)
 }
 
+// The store with them.
+fn crowded(alloc: Global) -> Result<MemStore, Fail> {
+    let text = twenty_inputs(alloc)?;
+    checked(alloc, text.as_str(), "valid points 5 inputs 20\n")
+}
+
 #[test]
 fn twenty_inputs_meet_no_want_of_memory(rt: HostRuntime) -> Result<(), Fail> {
-    let text = twenty_inputs(rt.alloc())?;
-    let mut store = store_with(rt.alloc(), text.as_str())?;
-    let (_, valid) = run_with(rt.alloc(), &mut store, &["check", "i.json"])?;
-    assert_eq!(rt; valid.as_str(), "valid points 5 inputs 20\n");
-    let (line, verdict) = solved(rt.alloc(), &mut store, "64")?;
-    assert_eq!(rt; line.as_str(), "total 2 bound 2\n");
-    assert_eq!(rt; verdict.as_str(), "yes total 2 bound 2\n");
-    Ok(())
+    let mut store = crowded(rt.alloc())?;
+    let line = solved(rt.alloc(), &mut store, "64")?;
+    must_say(line.as_str(), "total 2 bound 2\n")
 }

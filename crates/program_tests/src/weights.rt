@@ -1,7 +1,48 @@
 // Runs over instances with weights: each row the weights of the square's two inputs, the words, and the line.
-use crate::runs::{run_with, store_with, text_under, verdict};
+use crate::runs::{SCORE, must_print, must_say, solved_store, store_of, text_under, verdict};
 use std::alloc::Global;
 use std::test::Fail;
+
+const SEVENTEEN: &str =
+    r#"{"instance_uid":"Q","points_x":[0,2,2,0],"points_y":[0,0,2,2],"triangulations":[[[0,2]],[[0,2]],[[0,2]],[[0,2]],[[0,2]],[[0,2]],[[0,2]],[[0,2]],[[0,2]],[[0,2]],[[0,2]],[[0,2]],[[0,2]],[[0,2]],[[0,2]],[[0,2]],[[0,2]]],"x_weights":[16,16,16,16,16,16,16,16,16,16,16,16,16,16,16,16,16]}"#;
+
+// A solution with one round for each of the square's inputs.
+const SOLUTION: &str =
+    r#"{"content_type":"CGSHOP2026_Solution","flips":[[[[0,2]]],[[]]],"instance_uid":"Q","meta":{}}"#;
+
+const CHECK: [&str; 2] = ["check", "i.json"];
+
+const SOLVE: [&str; 8] = [
+    "solve",
+    "i.json",
+    "--workers",
+    "0",
+    "--turns",
+    "0",
+    "o.json",
+    "c.txt",
+];
+
+const CHECKED: [(&str, &str); 6] = [
+    ("[1,3]", "valid points 4 inputs 2\n"),
+    ("[1]", "refused instance WeightCount 1 2\n"),
+    ("[1,17]", "refused instance WeightRange 1\n"),
+    ("[0,1]", "refused instance WeightRange 0\n"),
+    ("[1,1.5]", "refused instance NotInteger x_weights 1\n"),
+    ("\"a\"", "refused instance WrongType x_weights\n"),
+];
+
+const SCORED: [(&str, &str); 3] = [
+    ("[1,3]", "total 4\n"),
+    ("[2,2]", "total 4\n"),
+    ("[1,1]", "total 2\n"),
+];
+
+const SOLVED: [(&str, &str); 3] = [
+    ("[1,3]", "total 1 bound 1\n"),
+    ("[2,2]", "total 2 bound 2\n"),
+    ("[1,1]", "total 1 bound 1\n"),
+];
 
 // The square with its two diagonals as inputs, and these weights.
 fn square(alloc: Global, weights: &str) -> Result<String, Fail> {
@@ -10,94 +51,57 @@ fn square(alloc: Global, weights: &str) -> Result<String, Fail> {
     )?)
 }
 
-// What a run with these words prints, where `i.json` holds the instance and `s.json` a solution with one round for each input.
-fn line_of(alloc: Global, instance: &str, words: &[&str]) -> Result<String, Fail> {
-    let mut store = store_with(alloc, instance)?;
-    let solution =
-        r#"{"content_type":"CGSHOP2026_Solution","flips":[[[[0,2]]],[[]]],"instance_uid":"Q","meta":{}}"#;
-    store.hold("s.json", solution.as_bytes())?;
-    let (_, line) = run_with(alloc, &mut store, words)?;
-    Ok(line)
+// A run with these words over this instance prints this.
+fn must_tell(alloc: Global, instance: &str, words: &[&str], line: &str) -> Result<(), Fail> {
+    let mut store = store_of(alloc, &[("i.json", instance), ("s.json", SOLUTION)])?;
+    must_print(alloc, &mut store, words, line)
+}
+
+// So does one over the square, with the weights and the line of each row.
+fn must_tell_each(alloc: Global, rows: &[(&str, &str)], words: &[&str]) -> Result<(), Fail> {
+    for row in rows {
+        let text = square(alloc, row.0)?;
+        must_tell(alloc, text.as_str(), words, row.1)?;
+    }
+    Ok(())
 }
 
 #[test]
 fn weights_are_checked(rt: HostRuntime) -> Result<(), Fail> {
-    let rows = [
-        ("[1,3]", "valid points 4 inputs 2\n"),
-        ("[1]", "refused instance WeightCount 1 2\n"),
-        ("[1,17]", "refused instance WeightRange 1\n"),
-        ("[0,1]", "refused instance WeightRange 0\n"),
-        ("[1,1.5]", "refused instance NotInteger x_weights 1\n"),
-        ("\"a\"", "refused instance WrongType x_weights\n"),
-    ];
-    for (weights, line) in rows {
-        let text = square(rt.alloc(), weights)?;
-        let told = line_of(rt.alloc(), text.as_str(), &["check", "i.json"])?;
-        assert_eq!(rt; told.as_str(), line);
-    }
-    Ok(())
+    must_tell_each(rt.alloc(), &CHECKED, &CHECK)
 }
 
 #[test]
 fn the_weights_of_all_inputs_are_added_up(rt: HostRuntime) -> Result<(), Fail> {
-    let text =
-        r#"{"instance_uid":"Q","points_x":[0,2,2,0],"points_y":[0,0,2,2],"triangulations":[[[0,2]],[[0,2]],[[0,2]],[[0,2]],[[0,2]],[[0,2]],[[0,2]],[[0,2]],[[0,2]],[[0,2]],[[0,2]],[[0,2]],[[0,2]],[[0,2]],[[0,2]],[[0,2]],[[0,2]]],"x_weights":[16,16,16,16,16,16,16,16,16,16,16,16,16,16,16,16,16]}"#;
-    let told = line_of(rt.alloc(), text, &["check", "i.json"])?;
-    assert_eq!(rt; told.as_str(), "refused instance WeightSum 272\n");
-    Ok(())
+    must_tell(
+        rt.alloc(),
+        SEVENTEEN,
+        &CHECK,
+        "refused instance WeightSum 272\n",
+    )
 }
 
 #[test]
 fn rounds_count_with_their_weights(rt: HostRuntime) -> Result<(), Fail> {
-    let rows = [
-        ("[1,3]", "total 4\n"),
-        ("[2,2]", "total 4\n"),
-        ("[1,1]", "total 2\n"),
-    ];
-    for (weights, scored) in rows {
-        let text = square(rt.alloc(), weights)?;
-        let told = line_of(rt.alloc(), text.as_str(), &["score", "i.json", "s.json"])?;
-        assert_eq!(rt; told.as_str(), scored);
-    }
-    Ok(())
+    must_tell_each(rt.alloc(), &SCORED, &SCORE)
 }
 
 #[test]
 fn totals_and_bounds_count_with_the_weights(rt: HostRuntime) -> Result<(), Fail> {
-    let rows = [
-        ("[1,3]", "total 1 bound 1\n"),
-        ("[2,2]", "total 2 bound 2\n"),
-        ("[1,1]", "total 1 bound 1\n"),
-    ];
-    let words = [
-        "solve",
-        "i.json",
-        "--workers",
-        "0",
-        "--turns",
-        "0",
-        "o.json",
-        "c.txt",
-    ];
-    for (weights, solved) in rows {
-        let text = square(rt.alloc(), weights)?;
-        let told = line_of(rt.alloc(), text.as_str(), &words)?;
-        assert_eq!(rt; told.as_str(), solved);
-    }
-    Ok(())
+    must_tell_each(rt.alloc(), &SOLVED, &SOLVE)
+}
+
+// The certificate that `solve` writes of the square with these weights, and what `verify` prints of it.
+fn judged(alloc: Global, weights: &str) -> Result<(String, String), Fail> {
+    let text = square(alloc, weights)?;
+    let mut store = solved_store(alloc, text.as_str())?;
+    let certificate = text_under(alloc, &store, "c.txt")?;
+    Ok((certificate, verdict(alloc, &mut store)?))
 }
 
 #[test]
 fn certificates_have_a_place_for_each_copy(rt: HostRuntime) -> Result<(), Fail> {
-    let text = square(rt.alloc(), "[2,2]")?;
-    let mut store = store_with(rt.alloc(), text.as_str())?;
-    let words = ["solve", "i.json", "s.json", "c.txt", "--workers", "0"];
-    run_with(rt.alloc(), &mut store, &words)?;
-    let certificate = text_under(rt.alloc(), &store, "c.txt")?;
+    let (certificate, verdict) = judged(rt.alloc(), "[2,2]")?;
     assert!(rt; certificate.contains("\ninputs 2 4\nopening 2\ntotal 2\nbound 2\n"));
-    assert_eq!(rt;
-        verdict(rt.alloc(), &mut store)?.as_str(),
-        "yes total 2 bound 2\n"
-    );
-    Ok(())
+    must_say(verdict.as_str(), "yes total 2 bound 2\n")
 }
