@@ -3,7 +3,7 @@ use Rattle.std.proofs.Common.{◌≡◌, ◌<◌, ◌↔◌, ℕ, List, Option, 
 use Rattle.std.specs.Prelude.{IsTrue}
 use Rattle.std.proofs.lemmas.Bool.{lt-ltb, ltb-true}
 use Rattle.centre_words.specs.declared.asked.Asked.{Asked}
-use Rattle.centre_words.specs.declared.asked.Asked.TheVariants.{Check, Score, Solve, Verify, Trace}
+use Rattle.centre_words.specs.declared.asked.Asked.TheVariants.{Check, Score, Solve, Verify, Trace, Bench}
 use Rattle.centre_words.specs.Words.{Asks, IsUnasked}
 use Rattle.centre_words.proofs.Meets.{words_ask_once}
 use Rattle.centre_run.specs.Runs.{AsksForWorkers}
@@ -15,6 +15,7 @@ workers_in (Score instance solution) = 0
 workers_in (Solve instance solution certificate workers turns seed flips) = workers
 workers_in (Verify instance solution certificate) = 0
 workers_in (Trace instance t) = 0
+workers_in (Bench seed points inputs) = 0
 
 module _ (words : List (List ℕ)) where
   asked_workers : (a : Asked) → Asks words a → AsksForWorkers words → 0 < workers_in a

@@ -9,16 +9,16 @@ use Rattle.tri_theory.specs.Triangulations.{IsTriangulation}
 use Rattle.lawson_law.specs.LawsonRuns.{IsLawsonRun}
 use Rattle.lawson_law.proofs.Proved.{runs_exist, runs_have_lengths, runs_are_short}
 use Rattle.centre_words.specs.declared.asked.Asked.{Asked}
-use Rattle.centre_words.specs.declared.asked.Asked.TheVariants.{Check, Score, Solve, Verify, Trace}
+use Rattle.centre_words.specs.declared.asked.Asked.TheVariants.{Check, Score, Solve, Verify, Trace, Bench}
 use Rattle.centre_words.specs.Words.{Asks}
 use Rattle.centre_run.specs.declared.status.Status.TheVariants.{FlipBudget, Refused, Words, ReadFault}
 use Rattle.centre_run.specs.declared.solving.SolveOptions.{SolveOptions}
 use Rattle.centre_run.specs.declared.solving.Texts.{Texts}
 use Rattle.centre_run.specs.Orders.{pairs_of, flips_allowed}
-use Rattle.centre_run.specs.Runs.{MayHold, SpellsInstance, ScoreSays, SolveSays, VerifySays, TraceSays, Files, CommandSays, Says, Does, AllowsFewFlips}
+use Rattle.centre_run.specs.Runs.{MayHold, SpellsInstance, ScoreSays, SolveSays, VerifySays, TraceSays, BenchSays, Files, CommandSays, Says, Does, AllowsFewFlips}
 
 -- a run is longer than the budget only where that is less than the pairs of points
-few_flips : (i : Problem) (n t : ℕ) → IsProblem i.points i.inputs → IsOverBudget i.points i.inputs n t → n < pairs_of (length i.points)
+pub few_flips : (i : Problem) (n t : ℕ) → IsProblem i.points i.inputs → IsOverBudget i.points i.inputs n t → n < pairs_of (length i.points)
 few_flips i n t problem over = by_run (runs_exist i.points over.input problem.placed there)
   where
     there : IsTriangulation i.points over.input
@@ -32,7 +32,7 @@ few_flips i n t problem over = by_run (runs_exist i.points over.input problem.pl
         between n (length flips) (pairs_of (length i.points)) ((runs_have_lengths i.points over.input flips to n problem.placed there run).0 over.longer)
         (runs_are_short i.points over.input flips to problem.placed there run.0)
 
-not_less : (n : ℕ) → n < n → ⊥
+pub not_less : (n : ℕ) → n < n → ⊥
 not_less n l = omega arith
 
 not_refused : FlipBudget ≡ Refused → ⊥
@@ -57,6 +57,10 @@ trace_never : (bytes : List ℕ) (t : ℕ) (line : List ℕ) → TraceSays bytes
 trace_never bytes t line (inl (refused, names)) = not_refused refused
 trace_never bytes t line (inr (instance, spells, says)) = says
 
+bench_never : (seed n m : ℕ) (line : List ℕ) → BenchSays seed n m FlipBudget line → ⊥
+bench_never seed n m line (raw, is, inl (bad, refused, first, told)) = not_refused refused
+bench_never seed n m line (raw, is, inr (instance, accepted, problem, says)) = says
+
 -- an instance that the bytes spell, of which so many flips are too few
 abbrev IsShort : List ℕ → Option ℕ → Type 0
 IsShort bytes flips = (instance : Problem) × SpellsInstance bytes instance × (flips_allowed instance flips < pairs_of (length instance.points))
@@ -76,6 +80,7 @@ few_asked words held (Solve i target certificate workers turns seed flips) line 
     solve_few words held i target certificate workers turns seed flips bytes asks there (solve_short bytes (record { workers = workers; turns = turns; seed = seed; flips = flips }) line texts says)
 few_asked words held (Verify i s c) line files asks (bytes, others, last, there, here, along, says, none) = absurd (verify_never bytes others last line says)
 few_asked words held (Trace i t) line files asks (bytes, there, says, none) = absurd (trace_never bytes t line says)
+few_asked words held (Bench seed n m) line files asks (says, none) = absurd (bench_never seed n m line says)
 
 says_few : (words : List (List ℕ)) (held : Option Held) (line : List ℕ) (files : Files) → Says words held FlipBudget line files → AllowsFewFlips words held
 says_few words held line files (inl (unasked, is, told, none)) = absurd (not_words is)

@@ -1,10 +1,10 @@
 -- How often commands call the store.
-use Rattle.std.proofs.Common.{◌≡◌, ◌⊎◌, subst, sym, ℕ, List, [], ◌∷◌, Option, inl, inr, arith}
+use Rattle.std.proofs.Common.{◌≡◌, ◌⊎◌, subst, sym, refl, ℕ, List, [], ◌∷◌, Option, inl, inr, arith}
 use Rattle.host_io.specs.Store.{Held, one_more}
 use Rattle.centre_run.specs.declared.status.Status.{Status}
 use Rattle.centre_run.specs.declared.status.Status.TheVariants.{Done, Words, Refused, FlipBudget, Memory, ReadFault, WriteFault, No}
 use Rattle.centre_words.specs.declared.asked.Asked.{Asked}
-use Rattle.centre_words.specs.declared.asked.Asked.TheVariants.{Check, Score, Solve, Verify, Trace}
+use Rattle.centre_words.specs.declared.asked.Asked.TheVariants.{Check, Score, Solve, Verify, Trace, Bench}
 use Rattle.centre_words.specs.Words.{Asks}
 use Rattle.centre_words.proofs.Meets.{words_ask_once}
 use Rattle.centre_run.specs.declared.solving.SolveOptions.{SolveOptions}
@@ -14,7 +14,7 @@ use Rattle.solution_json.specs.declared.solution.Solution.{Solution}
 use Rattle.tri_check.specs.Problems.{Problem}
 use Rattle.centre_run.specs.Orders.{order_of}
 use Rattle.cert_text.specs.declared.cert.Cert.{Cert}
-use Rattle.centre_run.specs.Runs.{ScoreSays, SolveSays, VerifySays, RunSays, OrderSays, SolutionSays, CertificateSays, CommandDoes}
+use Rattle.centre_run.specs.Runs.{ScoreSays, SolveSays, VerifySays, RunSays, BookSays, BenchSays, OrderSays, SolutionSays, CertificateSays, CommandDoes}
 use Rattle.centre_run.specs.Calls.{after_calling, after_writing, CallsFor, StopsWriting, CommandCalls}
 
 -- what holds of the command that words ask for holds of any
@@ -101,6 +101,20 @@ run_calls instance t c No line before now says done refused = absurd says
 pub trace_calls : (old new : Option Held) (name : List ℕ) (t : ℕ) (status : Status) (line : List ℕ) (before now : ℕ) → CommandDoes old new (Trace name t) status line → now ≡ one_more before → CallsFor (Trace name t) status before now
 trace_calls old new name t status line before now (files, (bytes, held, inl (refused, names), none), written) is = subst (λ s. CallsFor (Trace name t) s before now) (sym refused) is
 trace_calls old new name t status line before now (files, (bytes, held, inr (instance, spells, says), none), written) is = run_calls instance t (Trace name t) status line before now says is is
+
+book_calls : (instance : Problem) (seed : ℕ) (c : Asked) (status : Status) (line : List ℕ) (now : ℕ) → BookSays instance seed status line → CallsFor c Done now now → CallsFor c status now now
+book_calls instance seed c Done line now says done = done
+book_calls instance seed c Refused line now says done = absurd says
+book_calls instance seed c Words line now says done = absurd says
+book_calls instance seed c FlipBudget line now says done = absurd says
+book_calls instance seed c Memory line now says done = absurd says
+book_calls instance seed c ReadFault line now says done = absurd says
+book_calls instance seed c WriteFault line now says done = absurd says
+book_calls instance seed c No line now says done = absurd says
+
+pub bench_calls : (seed n m : ℕ) (status : Status) (line : List ℕ) (now : ℕ) → BenchSays seed n m status line → CallsFor (Bench seed n m) status now now
+bench_calls seed n m status line now (raw, is, inl (bad, refused, first, told)) = subst (λ s. CallsFor (Bench seed n m) s now now) (sym refused) refl
+bench_calls seed n m status line now (raw, is, inr (instance, accepted, problem, says)) = book_calls instance seed (Bench seed n m) status line now says refl
 
 -- a command that says a status ends with it
 pub said_calls : (held : Option Held) (Failed : Type 0) (c : Asked) (status : Status) (before now : ℕ) → CallsFor c status before now → CommandCalls held Failed c status before now

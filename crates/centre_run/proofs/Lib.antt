@@ -1,4 +1,5 @@
 mod Asking
+mod Benched
 mod Budgets
 mod Calling
 mod Found

@@ -25,8 +25,9 @@ use Rattle.tri_theory.specs.Inputs.{IsCompleted}
 use Rattle.centre_run.specs.declared.status.Status.{Status}
 use Rattle.centre_run.specs.declared.status.Status.TheVariants.{Done, Words, Refused, FlipBudget, Memory, ReadFault, WriteFault, No}
 use Rattle.centre_words.specs.declared.asked.Asked.{Asked}
-use Rattle.centre_words.specs.declared.asked.Asked.TheVariants.{Check, Score, Solve, Verify, Trace}
+use Rattle.centre_words.specs.declared.asked.Asked.TheVariants.{Check, Score, Solve, Verify, Trace, Bench}
 use Rattle.centre_words.specs.Words.{Asks}
+use Rattle.gen_instance.proofs.Once.{instances_are_generated_once}
 use Rattle.centre_words.proofs.Meets.{words_ask_once}
 use Rattle.cert_text.specs.declared.cert.Cert.{Cert}
 use Rattle.cert_text.specs.Forms as cert_form
@@ -39,7 +40,7 @@ use Rattle.book_solve.specs.declared.order.Order.{Order}
 use Rattle.centre_run.specs.declared.solving.SolveOptions.{SolveOptions}
 use Rattle.centre_run.specs.declared.solving.Texts.{Texts}
 use Rattle.centre_run.specs.Orders.{order_of}
-use Rattle.centre_run.specs.Runs.{SpellsValid, NamesInstanceFault, SpellsInstance, SpellsSolution, IsSolved, NamesScoreFault, NamesFileFault, NamesVerifyFault, SolutionSays, CertificateSays, CheckSays, ScoreSays, OrderSays, SolveSays, VerifySays, RunSays, TraceSays, Files, CommandSays, LacksFile, files_of, Says, HasReadCause}
+use Rattle.centre_run.specs.Runs.{SpellsValid, NamesInstanceFault, SpellsInstance, SpellsSolution, IsSolved, NamesScoreFault, NamesFileFault, NamesVerifyFault, SolutionSays, CertificateSays, CheckSays, ScoreSays, OrderSays, SolveSays, VerifySays, RunSays, TraceSays, RawSays, BookSays, BenchSays, Files, CommandSays, LacksFile, files_of, Says, HasReadCause}
 
 -- the bound on calls is that of the command that was asked for
 pub calls_once : (words : List (List ℕ)) (c : Asked) (before now : ℕ) → Asks words c → now ≤ before + files_of c → (d : Asked) → Asks words d → now ≤ before + files_of d
@@ -230,6 +231,27 @@ module _ (bytes : List ℕ) (n : ℕ) where
       one_of_two s t Done Refused (n < length i.inputs) (length i.inputs ≤ n) (n < length i.inputs) (length i.inputs ≤ n)
       (λ p q. not-le_of_lt p q) (λ p q. not-le_of_lt p q) (run_kind i n s k says) (run_kind i n t l (subst (λ p. RunSays p n t l) (sym (instance_once bytes i j a c)) told))
 
+book_done : (i : Problem) (seed : ℕ) (s : Status) (k : List ℕ) → BookSays i seed s k → s ≡ Done
+book_done i seed Done k a = refl
+book_done i seed Refused k a = absurd a
+book_done i seed Words k a = absurd a
+book_done i seed FlipBudget k a = absurd a
+book_done i seed Memory k a = absurd a
+book_done i seed ReadFault k a = absurd a
+book_done i seed WriteFault k a = absurd a
+book_done i seed No k a = absurd a
+
+module _ (seed n m : ℕ) where
+  bench_once : (s t : Status) (k l : List ℕ) → BenchSays seed n m s k → BenchSays seed n m t l → s ≡ t
+  bench_once s t k l (raw, is, says) (other, too, told) =
+      go says (subst (λ r. RawSays r (λ i. BookSays i seed) t l) (sym (instances_are_generated_once seed n m raw other is too)) told)
+    where
+      go : RawSays raw (λ i. BookSays i seed) s k → RawSays raw (λ i. BookSays i seed) t l → s ≡ t
+      go (inl (bad, d, first, line)) (inl (worse, e, one, words)) = d ∙ sym e
+      go (inl (bad, d, first, line)) (inr (i, accepted, problem, told)) = absurd (accepted.valid bad first.holds)
+      go (inr (i, accepted, problem, says)) (inl (bad, e, first, line)) = absurd (accepted.valid bad first.holds)
+      go (inr (i, accepted, problem, says)) (inr (j, accepting, sound, told)) = book_done i seed s k says ∙ sym (book_done j seed t l told)
+
 module _ (held : Held) where
   -- one name holds one file
   same_file : (P : List ℕ → Type 0) (name bytes others : List ℕ) → map.get held name ≡ Some bytes → map.get held name ≡ Some others → P others → P bytes
@@ -251,6 +273,7 @@ module _ (held : Held) where
       (same_file (λ e. VerifySays bs os e t l) third last ls along with_third told)))
   command_once (Trace name n) s t k l f g (bytes, there, says, none) (others, here, told, empty) =
       trace_once bytes n s t k l says (same_file (λ b. TraceSays b n t l) name bytes others there here told)
+  command_once (Bench seed n m) s t k l f g (says, none) (told, empty) = bench_once seed n m s t k l says told
 
   command_reads : (c : Asked) (s : Status) (k : List ℕ) (f : Files) → CommandSays (Some held) c s k f → LacksFile (Some held) c → ⊥
   command_reads (Check name) s k f (bytes, there, says, none) lacks = held_there held name bytes there lacks
@@ -261,6 +284,7 @@ module _ (held : Held) where
   command_reads (Verify first second third) s k f (bytes, others, last, there, here, along, says, none) (inr (inl lacks)) = held_there held second others here lacks
   command_reads (Verify first second third) s k f (bytes, others, last, there, here, along, says, none) (inr (inr lacks)) = held_there held third last along lacks
   command_reads (Trace name n) s k f (bytes, there, says, none) lacks = held_there held name bytes there lacks
+  command_reads (Bench seed n m) s k f says lacks = lacks
 
 module _ (words : List (List ℕ)) (held : Held) where
   pub says_once : (s t : Status) (k l : List ℕ) (f g : Files) → Says words (Some held) s k f → Says words (Some held) t l g → s ≡ t

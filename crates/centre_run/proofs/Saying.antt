@@ -21,13 +21,13 @@ use Rattle.host_io.specs.declared.fail.StoreFail.TheVariants.{Failed}
 use Rattle.host_io.specs.Sink.{Takes}
 use Rattle.host_io.specs.declared.fail.SinkFail.{SinkFail}
 use Rattle.centre_words.specs.declared.asked.Asked.{Asked}
-use Rattle.centre_words.specs.declared.asked.Asked.TheVariants.{Check, Score, Solve, Verify, Trace}
+use Rattle.centre_words.specs.declared.asked.Asked.TheVariants.{Check, Score, Solve, Verify, Trace, Bench}
 use Rattle.centre_words.specs.Table.{Number, turns, workers}
 use Rattle.centre_words.specs.Words.{values_of, IsChosen, Asks, IsUnasked}
 use Rattle.centre_run.specs.declared.solving.SolveOptions.{SolveOptions}
 use Rattle.centre_run.specs.declared.solving.Texts.{Texts}
 use Rattle.printed_lines.specs.Lines.{valid_line, words_line}
-use Rattle.centre_run.specs.Runs.{MayHold, CheckSays, ScoreSays, SolveSays, VerifySays, TraceSays, AsksToVerify, Files, files_under, CommandSays, CommandDoes, CommandBegins, CommandBreaksOff, Says, AreWritten, HasWritten, AreBegun, HasBegun, AreCutOff, HasBrokenOff, Does, Begins, BreaksOff, LeavesName, KeepsOthers, IsTold, IsCutOff, TellsPart}
+use Rattle.centre_run.specs.Runs.{MayHold, CheckSays, ScoreSays, SolveSays, VerifySays, TraceSays, BenchSays, AsksToVerify, Files, files_under, CommandSays, CommandDoes, CommandBegins, CommandBreaksOff, Says, AreWritten, HasWritten, AreBegun, HasBegun, AreCutOff, HasBrokenOff, Does, Begins, BreaksOff, LeavesName, KeepsOthers, IsTold, IsCutOff, TellsPart}
 
 pub accepted_says : (bytes : List ℕ) (raw : RawInstance) (problem : Problem) (status : Status) (line : List ℕ) → HasForm bytes → Spells bytes raw
     → IsAccepted raw.uid raw.points raw.inputs raw.weights problem → status ≡ Done → line ≡ valid_line (length problem.points) (length problem.inputs)
@@ -64,6 +64,10 @@ verify_does old new first second third bytes others last status line held here t
 pub trace_does : (old new : Option Held) (name bytes : List ℕ) (t : ℕ) (status : Status) (line : List ℕ) → MayHold old name bytes → new ≡ old → TraceSays bytes t status line → CommandDoes old new (Trace name t) status line
 trace_does old new name bytes t status line held same says = ([], (bytes, held, says, refl), nothing_written old new same)
 
+-- a command that has no files says this
+pub bench_does : (old : Option Held) (seed n m : ℕ) (status : Status) (line : List ℕ) → BenchSays seed n m status line → CommandDoes old old (Bench seed n m) status line
+bench_does old seed n m status line says = ([], (says, refl), nothing_written old old refl)
+
 -- the words ask for the texts of the names that were read
 pub verify_asked : (words : List (List ℕ)) (i s c first second third : List ℕ) → first ≡ i → second ≡ s → third ≡ c → Asks words (Verify i s c) → Asks words (Verify first second third)
 verify_asked words i s c first second third a b d asks =
@@ -79,6 +83,8 @@ no_asked words held (Solve i target certificate workers turns seed flips) line f
 no_asked words held (Verify i s c) line files asks says = (i, s, c, asks)
 no_asked words held (Trace i t) line files asks (bytes, there, inl (refused, names), none) = cc
 no_asked words held (Trace i t) line files asks (bytes, there, inr (instance, spells, says), none) = absurd says
+no_asked words held (Bench seed n m) line files asks ((raw, is, inl (bad, refused, first, told)), none) = cc
+no_asked words held (Bench seed n m) line files asks ((raw, is, inr (instance, accepted, problem, says)), none) = absurd says
 
 pub no_by_verify : (words : List (List ℕ)) (old new : Option Held) (line : List ℕ) → Does words old new No line → AsksToVerify words
 no_by_verify words old new line (files, inl (unasked, is, told, none), written) = cc
@@ -236,6 +242,7 @@ module _ (name : List ℕ) where
       (λ same. leaves (Solve i target certificate workers turns seed flips) asks (1, omega arith, sym same)))
   command_others words held (Verify i s c) status line files leaves asks (bytes, others, last, there, here, with_third, says, none) = no_file files none
   command_others words held (Trace i t) status line files leaves asks (bytes, there, says, none) = no_file files none
+  command_others words held (Bench seed n m) status line files leaves asks (says, none) = no_file files none
 
   others_said : (words : List (List ℕ)) (held : Option Held) (status : Status) (line : List ℕ) (files : Files) → LeavesName words name → Says words held status line files → AreOthers files
   others_said words held status line files leaves (inl (unasked, is, told, none)) = no_file files none

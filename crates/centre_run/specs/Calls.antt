@@ -5,7 +5,7 @@ use Rattle.centre_run.specs.declared.solving.Texts.{Texts}
 use Rattle.centre_run.specs.declared.status.Status.{Status}
 use Rattle.centre_run.specs.declared.status.Status.TheVariants.{Done, Refused, FlipBudget, Memory, ReadFault, WriteFault, No}
 use Rattle.centre_words.specs.declared.asked.Asked.{Asked}
-use Rattle.centre_words.specs.declared.asked.Asked.TheVariants.{Check, Score, Solve, Verify, Trace}
+use Rattle.centre_words.specs.declared.asked.Asked.TheVariants.{Check, Score, Solve, Verify, Trace, Bench}
 use Rattle.centre_words.specs.Words.{Asks}
 use Rattle.centre_run.specs.Runs.{MayHold, IsUnheld, files_of, written_by}
 
@@ -16,6 +16,7 @@ read_by (Score instance solution) = instance ∷ solution ∷ []
 read_by (Solve instance solution certificate workers turns seed flips) = instance ∷ []
 read_by (Verify instance solution certificate) = instance ∷ solution ∷ certificate ∷ []
 read_by (Trace instance t) = instance ∷ []
+read_by (Bench seed points inputs) = []
 
 -- a count of calls after one more for each of these names
 abbrev pub after_calling : List (List ℕ) → ℕ → ℕ

@@ -13,5 +13,9 @@ abbrev pub flips_allowed : Problem → Option ℕ → ℕ
 flips_allowed instance (Some flips) = flips
 flips_allowed instance None = pairs_of (length instance.points)
 
+-- what `bench` asks of the solver: a run may have as many flips as there are pairs of points, four improvers take a turn, and the caller takes the turns
+abbrev pub bench_order : Problem → ℕ → Order
+bench_order instance seed = record { flips = pairs_of (length instance.points); turns = 4; seed = seed; workers = 0 }
+
 abbrev pub order_of : Problem → SolveOptions → Order
 order_of instance options = record { flips = flips_allowed instance options.flips; turns = options.turns; seed = options.seed; workers = options.workers }

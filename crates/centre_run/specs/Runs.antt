@@ -24,9 +24,9 @@ use Rattle.replay.specs.Scores.{IsScoreFault, AreAllDistinct}
 use Rattle.centre_run.specs.declared.status.Status.{Status}
 use Rattle.centre_run.specs.declared.status.Status.TheVariants.{Done, Words, Refused, FlipBudget, Memory, ReadFault, No}
 use Rattle.centre_words.specs.declared.asked.Asked.{Asked}
-use Rattle.centre_words.specs.declared.asked.Asked.TheVariants.{Check, Score, Solve, Verify, Trace}
+use Rattle.centre_words.specs.declared.asked.Asked.TheVariants.{Check, Score, Solve, Verify, Trace, Bench}
 use Rattle.centre_words.specs.Words.{Asks, IsUnasked}
-use Rattle.printed_lines.specs.Lines.{words_line, valid_line, bad_line, form_line, total_line, solution_form_line, other_uid_line, score_fault_line, solved_line, budget_line, flips_line, no_such_input_line}
+use Rattle.printed_lines.specs.Lines.{words_line, valid_line, bad_line, form_line, total_line, solution_form_line, other_uid_line, score_fault_line, solved_line, opening_line, budget_line, flips_line, no_such_input_line}
 use Rattle.printed_lines.specs.VerifyLines.{cert_form_line, yes_line, no_line}
 use Rattle.line_text.specs.declared.fault.TextFault.{TextFault}
 use Rattle.cert_text.specs.declared.cert.Cert.{Cert}
@@ -37,14 +37,16 @@ use Rattle.verify_core.specs.declared.fault.VerifyFault.TheVariants as verify
 use Rattle.verify_core.specs.Faults.{IsShown, OnNo}
 use Rattle.lawson_start.specs.Starts.{IsOverBudget, IsWholeRun}
 use Rattle.book_solve.specs.declared.order.Order.{Order}
-use Rattle.plan_law.specs.Plans.{IsSettled}
+use Rattle.gen_instance.specs.Generated.{IsGenerated}
+use Rattle.plan_law.specs.Plans.{plan_total, IsSettled}
+use Rattle.plan_law.specs.Books.{bound}
 use Rattle.plan_law.specs.Solving.{AreLinesInOrder, AreLinesOfWorkers}
-use Rattle.book_solve.specs.Solved.{log_budget, turns_for}
-use Rattle.book_core.specs.HeldBooks.{IsBelowPlans}
+use Rattle.book_solve.specs.Solved.{log_budget, turns_for, IsSolvedBook}
+use Rattle.book_core.specs.HeldBooks.{HeldBook, now_of, IsBelowPlans}
 use Rattle.book_cert.specs.Written.{IsWritten, IsReplayable, HasBestAssignment, AreAnswersThenSettling}
 use Rattle.centre_run.specs.declared.solving.SolveOptions.{SolveOptions}
 use Rattle.centre_run.specs.declared.solving.Texts.{Texts}
-use Rattle.centre_run.specs.Orders.{pairs_of, order_of}
+use Rattle.centre_run.specs.Orders.{pairs_of, bench_order, order_of}
 
 -- ---- the files
 
@@ -194,6 +196,16 @@ TraceSays bytes t status line =
     ((status ≡ Refused) × NamesInstanceFault bytes line)
     ⊎ ((instance : Problem) × SpellsInstance bytes instance × RunSays instance t status line)
 
+-- what `bench` says of an instance: the totals of the first plan and of the last, and the bound of a book that was solved for it. No plan of the instance has a total below the bound
+abbrev pub BookSays : Problem → ℕ → Status → List ℕ → Type 0
+BookSays instance seed Done line =
+    (b : HeldBook) × IsSolvedBook instance (bench_order instance seed) b × IsBelowPlans instance (bound (now_of b)) × (line ≡ opening_line (plan_total b.opening) (plan_total (now_of b).plan) (bound (now_of b)))
+BookSays instance seed _ line = ⊥
+
+-- what `bench` says: the first fault of the instance that the seed and the numbers of points and inputs name, or what it says of that instance
+abbrev pub BenchSays : ℕ → ℕ → ℕ → Status → List ℕ → Type 0
+BenchSays seed points inputs status line = (raw : RawInstance) × IsGenerated seed points inputs raw × RawSays raw (λ instance. BookSays instance seed) status line
+
 -- files that are written: their names and their bytes
 abbrev pub Files : Type 0
 Files = List (List ℕ × List ℕ)
@@ -213,6 +225,7 @@ CommandSays held (Solve instance solution certificate workers turns seed flips) 
 CommandSays held (Verify instance solution certificate) status line files =
     (bytes : List ℕ) × (others : List ℕ) × (last : List ℕ) × MayHold held instance bytes × MayHold held solution others × MayHold held certificate last × VerifySays bytes others last status line × (files ≡ [])
 CommandSays held (Trace instance t) status line files = (bytes : List ℕ) × MayHold held instance bytes × TraceSays bytes t status line × (files ≡ [])
+CommandSays held (Bench seed points inputs) status line files = BenchSays seed points inputs status line × (files ≡ [])
 
 -- a file that the command reads isn't held
 abbrev pub LacksFile : Option Held → Asked → Type 0
@@ -221,6 +234,7 @@ LacksFile held (Score instance solution) = IsUnheld held instance ⊎ IsUnheld h
 LacksFile held (Solve instance solution certificate workers turns seed flips) = IsUnheld held instance
 LacksFile held (Verify instance solution certificate) = IsUnheld held instance ⊎ (IsUnheld held solution ⊎ IsUnheld held certificate)
 LacksFile held (Trace instance t) = IsUnheld held instance
+LacksFile held (Bench seed points inputs) = ⊥
 
 -- how many files the command reads or writes
 abbrev pub files_of : Asked → ℕ
@@ -229,6 +243,7 @@ files_of (Score instance solution) = 2
 files_of (Solve instance solution certificate workers turns seed flips) = 3
 files_of (Verify instance solution certificate) = 3
 files_of (Trace instance t) = 1
+files_of (Bench seed points inputs) = 0
 
 -- the names under which the command writes
 abbrev pub written_by : Asked → List (List ℕ)
@@ -237,6 +252,7 @@ written_by (Score instance solution) = []
 written_by (Solve instance solution certificate workers turns seed flips) = solution ∷ certificate ∷ []
 written_by (Verify instance solution certificate) = []
 written_by (Trace instance t) = []
+written_by (Bench seed points inputs) = []
 
 -- the words ask to verify a certificate
 abbrev pub AsksToVerify : List (List ℕ) → Type 0

@@ -1,6 +1,7 @@
 //! The commands of the program: from the words to the status and the printed line, over any store and sink.
 #![tactic(auto)]
 
+mod benching;
 mod checking;
 mod ending;
 mod reply;

@@ -11,6 +11,7 @@ ghost use Rattle.centre_run.specs.Ends.{IsEnd, IsRefusal, IsPut};
 ghost use Rattle.centre_run.specs.Solvers.{IsFound};
 ghost use Rattle.centre_run.specs.Runs.{Does, Begins, BreaksOff, KeepsOthers, IsReadOnly, HasReadCause, CallsOnce, IsFaultless, Completes, Tells, TellsPart, AsksToVerify, AllowsFewFlips, WritesHeadline, WritesReplayableBook, WritesSettledPlan, WritesBestAssignment, WritesAnswersThenSettling, WritesTurnsInOrder, WritesFewLateTurns, WritesProvedBound, WritesWhatVerifies, AsksForSolution, AsksForWorkers};
 
+use crate::benching::bench_reply;
 use crate::checking::check_file;
 use crate::reply::{Quiet, Reply, with_line};
 use crate::scoring::score_files;
@@ -108,6 +109,13 @@ fn reply_to<S: Store, F: FnOnce(Arc<Instance>, Order) -> Result<Written, StartFa
             certificate.text(),
         ),
         Ok(Asked::Trace { instance, t }) => trace_file(alloc, store, instance.text(), t),
+        Ok(
+            Asked::Bench {
+                seed,
+                points,
+                inputs,
+            },
+        ) => bench_reply(alloc, seed, points, inputs),
         Err(WordsFault::Words) => words_reply(alloc),
         Err(WordsFault::OutOfMemory) => Err(Quiet::Memory),
     }
@@ -260,6 +268,7 @@ fn ask_for_workers(alloc: Global, words: &[String]) -> Result<bool, AllocError>
         Ok(Asked::Score { .. }) => Ok(false),
         Ok(Asked::Verify { .. }) => Ok(false),
         Ok(Asked::Trace { .. }) => Ok(false),
+        Ok(Asked::Bench { .. }) => Ok(false),
         Err(WordsFault::Words) => Ok(false),
         Err(WordsFault::OutOfMemory) => Err(AllocError),
     }

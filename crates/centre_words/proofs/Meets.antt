@@ -15,8 +15,8 @@ use Rattle.centre_words.specs.declared.asked.Asked.{Asked}
 use Rattle.centre_words.specs.declared.asked.Asked.TheVariants as asked
 use Rattle.centre_words.specs.Commands.{AsksBy, the_app}
 use Rattle.centre_words.specs.PlainWords.{is_bare, is_word}
-use Rattle.centre_words.specs.Table.{Number, Row, table, check_row, score_row, solve_row, verify_row, trace_row, input, workers, turns, seed, flips}
-use Rattle.centre_words.specs.Words.{Asks, AsksSolve, IsChosen, IsNumberUpTo, IsPlain, IsPlainPiece, Piece, dashed, name, given, names_of, spelling, values_of}
+use Rattle.centre_words.specs.Table.{Number, Row, table, check_row, score_row, solve_row, verify_row, trace_row, bench_row, input, bench_seed, bench_points, bench_inputs, workers, turns, seed, flips}
+use Rattle.centre_words.specs.Words.{Asks, AsksSolve, IsChosen, IsNumberOf, IsPlain, IsPlainPiece, Piece, dashed, name, given, names_of, spelling, values_of}
 use Rattle.centre_words.proofs.Pieces.{Few, Fits, rows_for}
 use Rattle.centre_words.proofs.Rules.{at_all, has, options, places}
 use Rattle.centre_words.proofs.Tops.{named, parts_of, row_at, row_fault, row_rows}
@@ -188,9 +188,9 @@ as_row row r words found at at_r same s =
     subst (λ q. Said q words found) is s
 
 -- a number that must be there has a word
-given_word : (o : Option Text) (t : ℕ) → IsChosen input (option_to_list o) (Some t) → (word : Text) × (o ≡ Some word) × IsNumberUpTo input.most word t
-given_word None t h = cc
-given_word (Some word) t h = (word, refl, h)
+given_word : (number : Number) → number.usual ≡ None → (o : Option Text) (t : ℕ) → IsChosen number (option_to_list o) (Some t) → (word : Text) × (o ≡ Some word) × IsNumberOf number word t
+given_word number unusual None t h = let clash : Some t ≡ None = h ∙ unusual in cc
+given_word number unusual (Some word) t h = (word, refl, h)
 
 pub asks_from : (row : Row) (words : List Text) (found : List Given) → row_at row.name table ≡ Some row → Said row words found → (a : Asked) → AsksBy row.name found a → Asks words a
 asks_from row words found at s (asked.Check i) h =
@@ -216,9 +216,15 @@ asks_from row words found at s (asked.Verify i t c) h =
     let b = said_bare verify_row refl refl words found (as_row row verify_row words found at refl h.0 s) (i ∷ t ∷ c ∷ []) (λ j. h.1 j ∷ h.2 j ∷ h.3 j ∷ []) in
     (b.0, b.1.0, b.1.1.0, b.1.1.1.0)
 asks_from row words found at s (asked.Trace i t) h =
-    let w = given_word (first_of input.name found) t h.2 in
+    let w = given_word input refl (first_of input.name found) t h.2 in
     let b = said_bare trace_row refl refl words found (as_row row trace_row words found at refl h.0 s) (i ∷ w.0 ∷ []) (λ j. h.1 j ∷ w.1 j ∷ []) in
     (w.0, b.0, b.1.0, w.2)
+asks_from row words found at s (asked.Bench n p m) h =
+    let v = given_word bench_seed refl (first_of bench_seed.name found) n h.1 in
+    let w = given_word bench_points refl (first_of bench_points.name found) p h.2 in
+    let x = given_word bench_inputs refl (first_of bench_inputs.name found) m h.3 in
+    let b = said_bare bench_row refl refl words found (as_row row bench_row words found at refl h.0 s) (v.0 ∷ w.0 ∷ x.0 ∷ []) (λ j. v.1 j ∷ w.1 j ∷ x.1 j ∷ []) in
+    (v.0, w.0, x.0, b.0, v.2, w.2, x.2)
 
 -- ---- and back
 
@@ -274,6 +280,9 @@ meets words (asked.Verify i t c) h =
     meets_row verify_row refl words (asked.Verify i t c) (name i ∷ name t ∷ name c ∷ []) h.0 (h.1, (h.2, (h.3, tt))) (λ o is. cc) (refl, refl, refl, refl)
 meets words (asked.Trace i t) h =
     meets_row trace_row refl words (asked.Trace i t) (name i ∷ name h.0 ∷ []) h.1 (h.2, (digits_plain h.0 h.3.digits, tt)) (λ o is. cc) (refl, refl, h.3)
+meets words (asked.Bench n p m) h =
+    meets_row bench_row refl words (asked.Bench n p m) (name h.0 ∷ name h.1 ∷ name h.2 ∷ []) h.3
+    (digits_plain h.0 h.4.digits, (digits_plain h.1 h.5.digits, (digits_plain h.2 h.6.digits, tt))) (λ o is. cc) (refl, h.4, h.5, h.6)
 
 -- ---- matches ask for at most one thing
 
@@ -296,6 +305,7 @@ command_of (asked.Score i s) = codes "score"
 command_of (asked.Solve i s c w n m o) = codes "solve"
 command_of (asked.Verify i s c) = codes "verify"
 command_of (asked.Trace i t) = codes "trace"
+command_of (asked.Bench n p m) = codes "bench"
 
 asks_by_once : (command : Text) (found : List Given) (a b : Asked) → AsksBy command found a → AsksBy command found b → a ≡ b
 asks_by_once command found (asked.Check i) (asked.Check j) h k = ap asked.Check (same_name _ i j h.1 k.1)
@@ -318,6 +328,11 @@ asks_by_once command found (asked.Trace i t) (asked.Trace j u) h k =
     let ei = same_name _ i j h.1 k.1 in
     let et = some_is t u (number_once input _ (Some t) (Some u) h.2 k.2) in
     λ l. asked.Trace (ei l) (et l)
+asks_by_once command found (asked.Bench n p m) (asked.Bench o q k) h g =
+    let es = some_is n o (number_once bench_seed _ (Some n) (Some o) h.1 g.1) in
+    let ep = some_is p q (number_once bench_points _ (Some p) (Some q) h.2 g.2) in
+    let ei = some_is m k (number_once bench_inputs _ (Some m) (Some k) h.3 g.3) in
+    λ l. asked.Bench (es l) (ep l) (ei l)
 asks_by_once command found a b h k = let clash : bytes_eq (command_of a) (command_of a) ≡ bytes_eq (command_of b) (command_of a) = ap (λ t. bytes_eq t (command_of a)) (sym h.0 ∙ k.0) in cc
 
 pub same_found : (o : Option (Text × List Given)) (c d : Text) (f g : List Given) → o ≡ Some (c, f) → o ≡ Some (d, g) → (c ≡ d) × (f ≡ g)

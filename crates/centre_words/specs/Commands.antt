@@ -4,7 +4,7 @@ use Rattle.std.specs.List.{fold}
 use Rattle.clap.specs.Walk.{Row as Found, Rule, Text, first_of}
 use Rattle.clap.specs.Simple.{App, new_shape, new_rule, with_subcommand}
 use Rattle.clap.specs.declared.builder.action.ArgAction.TheVariants.{Set}
-use Rattle.centre_words.specs.Table.{Item, Row, file, count, choice, workers, turns, seed, flips, input, table}
+use Rattle.centre_words.specs.Table.{Item, Row, file, count, choice, workers, turns, seed, flips, input, bench_seed, bench_points, bench_inputs, table}
 use Rattle.centre_words.specs.Words.{AllDiffer, IsChosen}
 use Rattle.centre_words.specs.declared.asked.Asked.{Asked}
 use Rattle.centre_words.specs.declared.asked.Asked.TheVariants as asked
@@ -68,3 +68,6 @@ AsksBy command found (asked.Verify instance solution certificate) =
     × (first_of (codes "certificate") found ≡ Some certificate)
 AsksBy command found (asked.Trace instance t) =
     (command ≡ codes "trace") × (first_of (codes "instance") found ≡ Some instance) × IsChosen input (values_in found input.name) (Some t)
+AsksBy command found (asked.Bench n_seed n_points n_inputs) =
+    (command ≡ codes "bench") × IsChosen bench_seed (values_in found bench_seed.name) (Some n_seed) × IsChosen bench_points (values_in found bench_points.name) (Some n_points)
+    × IsChosen bench_inputs (values_in found bench_inputs.name) (Some n_inputs)

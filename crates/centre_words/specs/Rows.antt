@@ -7,7 +7,7 @@ use Rattle.centre_words.specs.declared.table.Item.TheVariants as item
 use Rattle.centre_words.specs.declared.table.Row.{Row as Row'}
 
 abbrev pub number_of : Number' → Number
-number_of n = record { name = n.name.now; most = n.most; usual = n.usual }
+number_of n = record { name = n.name.now; least = n.least; most = n.most; usual = n.usual }
 
 abbrev pub item_of : Item' → Item
 item_of (item.File id) = file id.now

@@ -4,7 +4,7 @@ use Rattle.std.specs.List.{All, AllPairs, list_any}
 use Rattle.std.specs.Str.{bytes_eq}
 use Rattle.std.specs.Str.Parse.{IsNumeral, digits_value}
 use Rattle.std.specs.declared.alloc.Global.{Global}
-use Rattle.centre_words.specs.Table.{Number, workers, turns, seed, flips, input, options_of, solve_row}
+use Rattle.centre_words.specs.Table.{Number, workers, turns, seed, flips, input, bench_seed, bench_points, bench_inputs, options_of, solve_row}
 use Rattle.centre_words.specs.declared.asked.Asked.{Asked}
 use Rattle.centre_words.specs.declared.asked.Asked.TheVariants as asked
 
@@ -17,12 +17,13 @@ abbrev pub IsPlain : List ℕ → Type 0
 IsPlain [] = ⊥
 IsPlain (b ∷ bs) = b ≢ 45
 
--- a word spells a number up to a greatest one: in 1 to 20 decimal digits
-pub record IsNumberUpTo (most : ℕ) (word : List ℕ) (n : ℕ) : Type 0 where
+-- a word spells n, which may stand for this number: in 1 to 20 decimal digits, and from its least to its greatest value
+pub record IsNumberOf (number : Number) (word : List ℕ) (n : ℕ) : Type 0 where
   pub digits : IsNumeral 10 word
   pub short : length word ≤ 20
   pub value : n ≡ digits_value 10 word
-  pub small : n ≤ most
+  pub large : number.least ≤ n
+  pub small : n ≤ number.most
 
 -- the word that stands before an option's value
 abbrev pub dashed : List ℕ → List ℕ
@@ -60,7 +61,7 @@ values_of option (given other value ∷ pieces) = cond (bytes_eq other option) (
 abbrev pub IsChosen : Number → List (List ℕ) → Option ℕ → Type 0
 IsChosen number [] n = n ≡ number.usual
 IsChosen number (value ∷ []) None = ⊥
-IsChosen number (value ∷ []) (Some n) = IsNumberUpTo number.most value n
+IsChosen number (value ∷ []) (Some n) = IsNumberOf number value n
 IsChosen number (value ∷ _ ∷ _) n = ⊥
 
 -- no two of the names are equal
@@ -87,7 +88,9 @@ Asks words (asked.Solve instance solution certificate n_workers n_turns n_seed n
 Asks words (asked.Verify instance solution certificate) =
     (words ≡ codes "verify" ∷ instance ∷ solution ∷ certificate ∷ []) × IsPlain instance × IsPlain solution × IsPlain certificate
 Asks words (asked.Trace instance t) =
-    (word : List ℕ) × (words ≡ codes "trace" ∷ instance ∷ word ∷ []) × IsPlain instance × IsNumberUpTo input.most word t
+    (word : List ℕ) × (words ≡ codes "trace" ∷ instance ∷ word ∷ []) × IsPlain instance × IsNumberOf input word t
+Asks words (asked.Bench n_seed n_points n_inputs) =
+    (a b c : List ℕ) × (words ≡ codes "bench" ∷ a ∷ b ∷ c ∷ []) × IsNumberOf bench_seed a n_seed × IsNumberOf bench_points b n_points × IsNumberOf bench_inputs c n_inputs
 
 -- the words are those of no command
 abbrev pub IsUnasked : List (List ℕ) → Type 0

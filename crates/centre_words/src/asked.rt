@@ -38,6 +38,12 @@ pub enum Asked {
         instance: Name,
         t: u64,
     },
+    /// The totals and the bound of the instance that a seed names, with so many points and inputs.
+    Bench {
+        seed: u64,
+        points: u32,
+        inputs: u32,
+    },
 }
 
 /// Why nothing was read.

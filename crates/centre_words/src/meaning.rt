@@ -8,8 +8,10 @@ ghost use Rattle.centre_words.specs.declared.asked.Asked.{Asked};
 
 use crate::asked::{Asked, WordsFault};
 use crate::name::Name;
-use crate::number::number_up_to;
-use crate::table::{FLIPS, INPUT, Number, SEED, TURNS, WORKERS};
+use crate::number::number_spelled;
+use crate::table::{
+    BENCH_INPUTS, BENCH_POINTS, BENCH_SEED, FLIPS, INPUT, Number, SEED, TURNS, WORKERS,
+};
 use clap::ArgMatches;
 use std::alloc::Global;
 
@@ -39,7 +41,7 @@ fn number_in(found: &ArgMatches<'_>, number: Number) -> Result<Option<u64>, Word
     ensures words { (e : WordsFault) → result ≡ Err e → (n : Option ℕ) → ¬ IsChosen (number_of number) (values_in (rows_of (found_of found.now)) number.name.now) n }
 {
     match text_in(found, number.name) {
-        Some(word) => match number_up_to(word, number.most) {
+        Some(word) => match number_spelled(word, number) {
             Some(n) => Ok(Some(n)),
             None => Err(WordsFault::Words),
         },
@@ -90,6 +92,20 @@ fn solve_by(alloc: Global, found: &ArgMatches<'_>) -> Result<Asked, WordsFault>
     })
 }
 
+fn bench_by(found: &ArgMatches<'_>) -> Result<Asked, WordsFault>
+    ensures ok { IfOk result (AsksBy (codes "bench") (rows_of (found_of found.now))) }
+    ensures words { result ≡ Err WordsFault.Words → (a : Asked) → ¬ AsksBy (codes "bench") (rows_of (found_of found.now)) a }
+{
+    let seed = some_number_in(found, BENCH_SEED)?;
+    let points = some_number_in(found, BENCH_POINTS)?;
+    let inputs = some_number_in(found, BENCH_INPUTS)?;
+    Ok(Asked::Bench {
+        seed,
+        points: points as u32,
+        inputs: inputs as u32,
+    })
+}
+
 /// What the matches of a command ask for.
 pub fn asked_by(alloc: Global, command: &str, found: &ArgMatches<'_>) -> Result<Asked, WordsFault>
     ensures ok { IfOk result (AsksBy command.now (rows_of (found_of found.now))) }
@@ -117,6 +133,8 @@ pub fn asked_by(alloc: Global, command: &str, found: &ArgMatches<'_>) -> Result<
             instance: name_in(alloc, found, "instance")?,
             t: some_number_in(found, INPUT)?,
         })
+    } else if command == "bench" {
+        bench_by(found)
     } else {
         Err(WordsFault::Words)
     }

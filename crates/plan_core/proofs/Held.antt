@@ -24,7 +24,7 @@ use Rattle.round_pack.specs.Tracks.{FlipTrack, flip}
 use Rattle.bound_law.specs.Bounds.{input_at}
 use Rattle.plan_law.specs.Images.{image_of, flippable, after_flip}
 use Rattle.tri_theory.specs.Rounds.{weighted_sum}
-use Rattle.plan_law.specs.Plans.{IsInstance, Plan, IsPlanOf, with_flip, followed, followed_all, last_moves, moves}
+use Rattle.plan_law.specs.Plans.{IsInstance, Plan, IsPlanOf, with_flip, followed, followed_all, last_moves}
 use Rattle.plan_law.proofs.Proved.{images_are_found, flips_lead_on, flippable_edges, plans_have_schedules, centres_are_triangulations, following_keeps_plans}
 use Rattle.plan_core.specs.HeldPlans.{LeadsTo, HasSchedules, TotalsAfter, lists_of, list_at}
 use Rattle.plan_core.specs.States.{plan_of, IsHeld}
@@ -147,13 +147,10 @@ module _ (problem : Problem) (centre : Layout) (tracks : List FlipTrack) (H : Is
   totals_after e n (f, h) sums = (with_flip plan (flip e f), is_followed e f h, sums f (all_flip_to problem.points centre.edges e f h problem.inputs tracks H.lead))
 
   -- the edges that flip, as they are listed
-  pub moves_are : (list : List Edge) (made : List (List Edge)) → AreFlippable problem.points centre.edges list → made ≡ map (λ e. e ∷ []) list ++ last_moves (lists_of tracks) → made ≡ moves problem.points plan
-  moves_are list made A m = m ∙ ap (λ es. map (λ e. e ∷ []) es ++ last_moves (lists_of tracks)) listed
-    where
-      listed : list ≡ flippable problem.points centre.edges
-      listed =
-          same_members list (flippable problem.points centre.edges) A.ascending (AllPairs-filter IsBefore (λ e. is_some (image_of problem.points centre.edges e)) centre.edges triangulated.ascending)
-          (λ e. (λ c. (flippable_edges problem.points centre.edges e instance.placed triangulated).1 ((A.members e).0 c), λ c. (A.members e).1 ((flippable_edges problem.points centre.edges e instance.placed triangulated).0 c)))
+  pub flippable_are : (list : List Edge) → AreFlippable problem.points centre.edges list → list ≡ flippable problem.points centre.edges
+  flippable_are list A =
+      same_members list (flippable problem.points centre.edges) A.ascending (AllPairs-filter IsBefore (λ e. is_some (image_of problem.points centre.edges e)) centre.edges triangulated.ascending)
+      (λ e. (λ c. (flippable_edges problem.points centre.edges e instance.placed triangulated).1 ((A.members e).0 c), λ c. (A.members e).1 ((flippable_edges problem.points centre.edges e instance.placed triangulated).0 c)))
 
   -- ---- following
   module _ (next : Layout) (new : List FlipTrack) (e f : Edge) (P : next.points ≡ centre.points) (X : IsFlip centre.points centre.edges e f next.edges) (Z : AllZip (IsFollowed e) tracks new) where

@@ -6,4 +6,5 @@ pub mod Sums
 pub mod SwapLaws
 pub mod Swapping
 pub mod Through
+pub mod Trials
 pub mod Turns

@@ -8,7 +8,7 @@ use edge_table::Edge;
 use round_pack::{Track, TrackList};
 
 // Follows an edge that flips in a track's end.
-fn follow_in(track: &mut Track, e: Edge)
+pub(crate) fn follow_in(track: &mut Track, e: Edge)
     requires flips { Flips track.old.points track.old.end e }
     requires spare { 0 < track.old.spare }
     ensures { IsFollowed e track.old track.new }

@@ -12,6 +12,7 @@ mod room;
 mod swap;
 mod threads;
 mod totals;
+mod trial;
 
 pub use fault::SwapFault;
 pub use list::MoveList;

@@ -6,7 +6,8 @@ ghost use Rattle.tri_check.specs.Problems.{IsProblem};
 ghost use Rattle.flip_list_law.specs.FlipLists.{round_count, grouped};
 ghost use Rattle.flip_list_law.specs.Laws.{Replays};
 ghost use Rattle.bound_law.specs.Bounds.{input_at};
-ghost use Rattle.plan_law.specs.Plans.{IsPlanOf, plan_total, followed, moves};
+ghost use Rattle.plan_law.specs.Images.{flippable};
+ghost use Rattle.plan_law.specs.Plans.{IsPlanOf, plan_total, followed, last_moves, moves, lowers};
 ghost use Rattle.plan_core.specs.HeldPlans.{LeadsTo, HasSchedules, TotalsAfter, lists_of, least_spare, list_at};
 ghost use Rattle.plan_core.specs.Steps.{IsLed, IsTrackFor};
 ghost use Rattle.plan_core.specs.SwapFaults.{IsSwapFault, Saves};
@@ -16,8 +17,9 @@ use crate::moves::{add_lasts, add_singles};
 use crate::room::reserve_all;
 use crate::swap::{lead_to, put, track_of};
 use crate::totals::{sum_rounds, sum_rounds_after};
+use crate::trial::would_lower;
 use crate::{MoveList, SwapFault};
-use edge_table::{Edge, Rounds};
+use edge_table::{Edge, EdgeSeq, Rounds};
 use flip_mesh::Mesh;
 use round_pack::{Track, TrackList};
 use std::alloc::{AllocError, Global};
@@ -141,16 +143,39 @@ impl Plan {
         self.tracks.at(t as usize).grouped()
     }
 
+    /// The edges that flip in the centre, in edge order, in O(m log m) steps for m edges. Each is a move of one edge.
+    pub fn flippable(&self) -> Result<EdgeSeq, AllocError>
+        ensures { IfOk result (λ edges. edges ≡ flippable self.now.problem.points self.now.plan.centre) }
+    {
+        let _ = self.centre.points();
+        self.centre.flippable_list()
+    }
+
+    /// The last of the moves: for each input in order that has a round the images of its last round, in edge order. So there is at most one for each input. Each flip of each list is looked at once.
+    pub fn last_moves(&self) -> Result<MoveList, AllocError>
+        ensures { IfOk result (λ m. m ≡ last_moves self.now.plan.lists) }
+    {
+        let mut moves = MoveList::make(self.alloc);
+        add_lasts(&mut moves, &self.tracks)?;
+        Ok(moves)
+    }
+
     /// The moves, each a list of edges to be followed one after the other: first each edge that flips in the centre, in edge order, and then for each input in order that has a round the images of its last round, in edge order.
     pub fn moves(&self) -> Result<MoveList, AllocError>
         ensures { IfOk result (λ m. m ≡ moves self.now.problem.points self.now.plan) }
     {
-        let _ = self.centre.points();
-        let edges = self.centre.flippable_list()?;
+        let edges = self.flippable()?;
         let mut moves = MoveList::make(self.alloc);
         add_singles(self.alloc, &mut moves, &edges)?;
         add_lasts(&mut moves, &self.tracks)?;
         Ok(moves)
+    }
+
+    /// Whether edges can be followed one after the other, and the total is lower then. It copies the mesh of the centre, each list with all images of its last round among the edges, since no other can have fewer rounds then, and after that one list after the other, up to the one that shows that the total isn't lower. For one edge `flips` and `total_after` tell it without a copy.
+    pub fn lowers(&self, edges: &EdgeSeq) -> Result<bool, AllocError>
+        ensures { IfOk result (λ b. b ≡ lowers self.now.problem.points self.now.plan edges.now) }
+    {
+        would_lower(self.alloc, &self.inst, &self.centre, &self.tracks, edges)
     }
 
     /// Makes room in each list for at least `k` more flips, and changes nothing else.

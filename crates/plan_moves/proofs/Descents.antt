@@ -1,5 +1,5 @@
 -- A descent, round by round.
-use Rattle.std.proofs.Common.{◌≡◌, ◌≢◌, ◌⊎◌, inl, inr, ◌∙◌, ℕ, suc, ◌+◌, ◌<◌, ◌≤◌, Bool, true, false, cond, List, [], ◌∷◌, ◌++◌, length, refl, sym, ap, ap₂, subst, subst₂, arith, append_assoc}
+use Rattle.std.proofs.Common.{◌≡◌, ◌≢◌, ◌∙◌, ℕ, suc, ◌+◌, ◌<◌, ◌≤◌, Bool, true, false, cond, List, [], ◌∷◌, ◌++◌, length, refl, sym, ap, ap₂, subst, subst₂, arith, append_assoc}
 use Rattle.std.proofs.lemmas.List.{append-nil}
 use Rattle.std.specs.Prelude.{◌↔◌, IsTrue, Decides, slice_index_or}
 use Rattle.geo_orient.specs.declared.Point.{Point}
@@ -15,6 +15,7 @@ use Rattle.plan_law.specs.Plans.{Plan}
 use Rattle.plan_law.specs.Improvers.{greedy_round, Descended, preceded, descended, weight_of, judged, descent}
 use Rattle.plan_law.proofs.Improvers.{round_falls, lists_decided}
 use Rattle.plan_law.proofs.Proved.{greedy_rounds, descents_end}
+use Rattle.plan_moves.proofs.Choices.{none_at_centre}
 use Rattle.plan_moves.specs.Rounds.{Descends, run, judged_as}
 
 -- these rounds come first
@@ -37,9 +38,13 @@ module _ (points : List Point) (P : ArePlaced points) (centre T : List Edge) (I 
       by_round [] m l = absurd (m refl)
       by_round (flip ∷ flips) m l = omega (arith, l)
 
-  pub run_more : T ≢ centre → greedy_round points centre T ≢ [] → IsTriangulation points (after_flips T (greedy_round points centre T))
+  -- at the centre the round is empty
+  off_centre : greedy_round points centre T ≢ [] → T ≢ centre
+  off_centre n e = n (subst (λ c. greedy_round points c T ≡ []) e (none_at_centre points P T I))
+
+  pub run_more : greedy_round points centre T ≢ [] → IsTriangulation points (after_flips T (greedy_round points centre T))
       → run points centre T ≡ preceded (flipped_edges (greedy_round points centre T)) (run points centre (after_flips T (greedy_round points centre T)))
-  run_more off n J = unfolded ∙ by_test (are_equal T centre) (lists_decided T centre)
+  run_more n J = unfolded ∙ by_test (are_equal T centre) (lists_decided T centre)
     where
       by_round : (G : List Flip) → greedy_round points centre T ≡ G → G ≢ [] → IsTriangulation points (after_flips T G) → weight_of points centre (after_flips T G) + length G ≤ weight_of points centre T → step (weight_of points centre T) G ≡ preceded (flipped_edges G) (run points centre (after_flips T G))
       by_round [] e m K l = absurd (m refl)
@@ -47,16 +52,11 @@ module _ (points : List Point) (P : ArePlaced points) (centre T : List Edge) (I 
 
       by_test : (v : Bool) → Decides v (T ≡ centre)
           → cond v (record { rounds = []; end = T }) (step (weight_of points centre T) (greedy_round points centre T)) ≡ preceded (flipped_edges (greedy_round points centre T)) (run points centre (after_flips T (greedy_round points centre T)))
-      by_test true d = absurd (off (d.0 refl))
+      by_test true d = absurd (off_centre n (d.0 refl))
       by_test false d = by_round (greedy_round points centre T) refl n J (round_falls points P centre T I)
 
-  pub run_ends : (T ≡ centre) ⊎ (greedy_round points centre T ≡ []) → run points centre T ≡ record { rounds = []; end = T }
-  run_ends (inl e) = unfolded ∙ by_test (are_equal T centre) (lists_decided T centre)
-    where
-      by_test : (v : Bool) → Decides v (T ≡ centre) → cond v (record { rounds = []; end = T }) (step (weight_of points centre T) (greedy_round points centre T)) ≡ record { rounds = []; end = T }
-      by_test true d = refl
-      by_test false d = absurd (let i = d.1 e in cc)
-  run_ends (inr e) = unfolded ∙ by_test (are_equal T centre)
+  pub run_ends : greedy_round points centre T ≡ [] → run points centre T ≡ record { rounds = []; end = T }
+  run_ends e = unfolded ∙ by_test (are_equal T centre)
     where
       by_test : (v : Bool) → cond v (record { rounds = []; end = T }) (step (weight_of points centre T) (greedy_round points centre T)) ≡ record { rounds = []; end = T }
       by_test true = refl
@@ -70,12 +70,12 @@ goes_on points centre start now next rounds more round e f g =
 
 -- ---- a step
 module _ (points : List Point) (P : ArePlaced points) (centre now next : List Edge) (rounds more : List (List Edge)) (b : Bool) (I : IsTriangulation points now) (S : Descends points centre now rounds b next more) where
-  goes : b ≡ true → (now ≢ centre) × (greedy_round points centre now ≢ []) × (next ≡ after_flips now (greedy_round points centre now)) × (more ≡ rounds ++ flipped_edges (greedy_round points centre now) ∷ [])
+  goes : b ≡ true → (greedy_round points centre now ≢ []) × (next ≡ after_flips now (greedy_round points centre now)) × (more ≡ rounds ++ flipped_edges (greedy_round points centre now) ∷ [])
   goes e = subst (λ b. Descends points centre now rounds b next more) e S
 
   -- the sum of the weights falls
   pub step_falls : b ≡ true → weight_of points centre next < weight_of points centre now
-  step_falls e = let g = goes e in subst (λ l. weight_of points centre l < weight_of points centre now) (sym g.2) (falls points P centre now I g.1)
+  step_falls e = let g = goes e in subst (λ l. weight_of points centre l < weight_of points centre now) (sym g.1) (falls points P centre now I g.0)
 
   -- the descent goes on
   pub step_on : (start : List Edge) → b ≡ true → run points centre start ≡ all_preceded rounds (run points centre now) → run points centre start ≡ all_preceded more (run points centre next)
@@ -83,13 +83,13 @@ module _ (points : List Point) (P : ArePlaced points) (centre now next : List Ed
       let g = goes e in
       let J = next_triangulation points P now (flipped_edges (greedy_round points centre now)) (after_flips now (greedy_round points centre now)) I (greedy_rounds points centre now P I).0 in
       goes_on points centre start now next rounds more (flipped_edges (greedy_round points centre now)) r
-      (run_more points P centre now I g.0 g.1 J ∙ ap (λ l. preceded (flipped_edges (greedy_round points centre now)) (run points centre l)) (sym g.2)) g.3
+      (run_more points P centre now I g.0 J ∙ ap (λ l. preceded (flipped_edges (greedy_round points centre now)) (run points centre l)) (sym g.1)) g.2
 
   -- or it ends
   pub step_ends : (start : List Edge) → b ≡ false → run points centre start ≡ all_preceded rounds (run points centre now) → run points centre start ≡ record { rounds = more; end = next }
   step_ends start e r = by_end (subst (λ b. Descends points centre now rounds b next more) e S)
     where
-      by_end : ((now ≡ centre) ⊎ (greedy_round points centre now ≡ [])) × (next ≡ now) × (more ≡ rounds) → run points centre start ≡ record { rounds = more; end = next }
+      by_end : (greedy_round points centre now ≡ []) × (next ≡ now) × (more ≡ rounds) → run points centre start ≡ record { rounds = more; end = next }
       by_end (o, n, m) =
           r ∙ (ap (all_preceded rounds) (run_ends points P centre now I o) ∙ ap₂ (λ rs l. record { rounds = rs; end = l }) (append-nil rounds ∙ sym m) (sym n))
 

@@ -43,10 +43,10 @@ covered (f ∷ F) g t (suc k, l, e) s = shift (covered F g t (k, omega arith, e)
     shift (p, m, i) = (suc (suc p), omega arith, i)
 
 -- a flip is free, or has a triangle in common with another
-abbrev SharesWith : List Flip → Flip → Type 0
+abbrev pub SharesWith : List Flip → Flip → Type 0
 SharesWith F flip = (g : Flip) × Contains F g × ((t : Triangle) × HasSide g t × HasSide flip t)
 
-free_or : (F : List Flip) (flip : Flip) → (is_free (sides_of F) flip ≡ true) ⊎ SharesWith F flip
+pub free_or : (F : List Flip) (flip : Flip) → (is_free (sides_of F) flip ≡ true) ⊎ SharesWith F flip
 free_or [] flip = inl refl
 free_or (g ∷ F) flip = by_tests (is_same (one_side g) (one_side flip) || is_same (one_side g) (other_side flip)) (is_same (other_side g) (one_side flip) || is_same (other_side g) (other_side flip)) (decided (one_side g)) (decided (other_side g)) (free_or F flip)
   where
@@ -62,7 +62,7 @@ free_or (g ∷ F) flip = by_tests (is_same (one_side g) (one_side flip) || is_sa
     by_tests false false d e (inl h) = inl h
     by_tests false false d e (inr (f, (k, l, h), s)) = inr (f, (suc k, omega arith, h), s)
 
-edge_listed : (F : List Flip) (g : Flip) → Contains F g → Contains (flipped_edges F) g.edge
+pub edge_listed : (F : List Flip) (g : Flip) → Contains F g → Contains (flipped_edges F) g.edge
 edge_listed [] g (k, l, e) = absurd (omega arith)
 edge_listed (f ∷ F) g (zero, l, e) = contains_here g.edge f.edge (flipped_edges F) (ap (λ (h : Flip). h.edge) e)
 edge_listed (f ∷ F) g (suc k, l, e) = contains_later g.edge f.edge (flipped_edges F) (edge_listed F g (k, omega arith, e))
@@ -111,7 +111,7 @@ module _ (points : List Point) (P : ArePlaced points) (T : List Edge) (I : IsTri
   has_by_side g f x y z t (inr (inr e)) = subst (HasSide g) (triangle_turn z x y) (side_tri points P T I g f z x y (turn y z x (turn x y z t)) (sym e))
 
   -- flips with a triangle in common have edges that share it
-  shared : (flip g : Flip) (t : Triangle) → FlipsTo points T flip.edge flip.image → FlipsTo points T g.edge g.image → HasSide g t → HasSide flip t → ShareTriangle points T flip.edge g.edge
+  pub shared : (flip g : Flip) (t : Triangle) → FlipsTo points T flip.edge flip.image → FlipsTo points T g.edge g.image → HasSide g t → HasSide flip t → ShareTriangle points T flip.edge g.edge
   shared flip g t hf hg s s' = by_tris (side_at points P T I flip t hf s') (side_at points P T I g t hg s)
     where
       by_tris : (x y z : ℕ) × IsEmptyTriangle points T x y z × (edge x y ≡ flip.edge) × (t ≡ triangle x y z) → (x y z : ℕ) × IsEmptyTriangle points T x y z × (edge x y ≡ g.edge) × (t ≡ triangle x y z) → ShareTriangle points T flip.edge g.edge
@@ -186,17 +186,17 @@ module _ (points : List Point) (P : ArePlaced points) (T : List Edge) (I : IsTri
       | None ↦ greedy points weight T (sides_of F) es
     ]
 
-    pub begins : Going points T centre [] T
-    begins = record {
+    pub begins : (candidates : List Edge) → IsAscending candidates → greedy_round points centre T ≡ greedy points (crossings points centre) T [] candidates → Going points T centre [] candidates
+    begins candidates up same = record {
       flips = [];
       are_flips = λ g (k, l, e). absurd (omega arith);
       members = λ e. (λ h. h, λ h. h);
       apart = λ e (k, l, h). absurd (omega arith);
-      ascending = I.ascending;
-      all = λ e. (λ h. inr h, λ h. right e h);
+      ascending = up;
+      all = λ e. (λ h. inr (subst (λ flips. Contains (flipped_edges flips) e) same h), λ h. subst (λ flips. Contains (flipped_edges flips) e) (sym same) (right e h));
     }
       where
-        right : (e : Edge) → Contains [] e ⊎ Contains (flipped_edges (greedy_round points centre T)) e → Contains (flipped_edges (greedy_round points centre T)) e
+        right : (e : Edge) → Contains [] e ⊎ Contains (flipped_edges (greedy points weight T [] candidates)) e → Contains (flipped_edges (greedy points weight T [] candidates)) e
         right e (inl (k, l, h)) = absurd (omega arith)
         right e (inr h) = h
 

@@ -1,8 +1,12 @@
+pub mod Adding
 pub mod Begun
+pub mod Choices
 pub mod Descents
 pub mod Faultless
 pub mod GreedyRounds
 pub mod Improves
+pub mod LastRounds
 pub mod Lowered
+pub mod Neighbours
 pub mod Openings
 pub mod Walked

@@ -1,5 +1,5 @@
 -- Which moves lower the total of a plan, and the first of them.
-use Rattle.std.proofs.Common.{◌≡◌, ◌∙◌, ℕ, suc, ◌+◌, ◌<◌, Bool, true, false, cond, Option, Some, None, List, [], ◌∷◌, ◌++◌, length, get_or, drop, slice_get, refl, sym, ap, subst, subst₂, arith, drop-cons}
+use Rattle.std.proofs.Common.{◌≡◌, ◌∙◌, ℕ, zero, suc, ◌+◌, ◌<◌, Bool, true, false, cond, Option, Some, None, List, [], ◌∷◌, ◌++◌, length, get_or, drop, slice_get, refl, sym, ap, subst, subst₂, arith, drop-cons}
 use Rattle.std.specs.Prelude.{◌↔◌, IsTrue, nat_lt, find}
 use Rattle.std.proofs.lemmas.Option.{get_or_from_slice_get}
 use Rattle.std.proofs.lemmas.List.Elements.{Contains-get_or}
@@ -27,6 +27,12 @@ find_on test xs i x h s f = ap (find test) (apart xs i x h s) ∙ ap (λ b. cond
 
 pub find_here : {X : Type 0} (test : X → Bool) (xs : List X) (i : ℕ) (x : X) → i < length xs → slice_get xs i ≡ Some x → test x ≡ true → find test (drop i xs) ≡ Some x
 find_here test xs i x h s f = ap (find test) (apart xs i x h s) ∙ ap (λ b. cond b (Some x) (find test (drop (i + 1) xs))) f
+
+-- the element at a place
+pub there : {X : Type 0} (xs : List X) (k : ℕ) (d x : X) → k < length xs → get_or xs k d ≡ x → slice_get xs k ≡ Some x
+there [] k d x l e = absurd (omega arith)
+there (y ∷ xs) zero d x l e = ap (λ z. Some z) e
+there (y ∷ xs) (suc k) d x l e = there xs k d x (omega arith) e
 
 -- the only element
 pub alone : {X : Type 0} (xs : List X) (x : X) → length xs ≡ 1 → slice_get xs 0 ≡ Some x → xs ≡ x ∷ []

@@ -1,7 +1,8 @@
 -- A walk, move by move.
-use Rattle.std.proofs.Common.{◌≡◌, ◌≢◌, ◌∙◌, ℕ, zero, suc, ◌+◌, ◌-◌, ◌<◌, ◌≤◌, ◌%◌, Bool, true, false, cond, Option, Some, None, List, [], ◌∷◌, ◌++◌, length, slice_get, Contains, refl, sym, ap, subst, subst₂, arith, lt-ltb, le-ltb}
+use Rattle.std.proofs.Common.{◌≡◌, ◌≢◌, ◌∙◌, ℕ, zero, suc, ◌+◌, ◌-◌, ◌<◌, ◌≤◌, ◌%◌, Bool, true, false, cond, Option, Some, None, List, [], ◌∷◌, ◌++◌, length, map, get_or, slice_get, Contains, refl, sym, ap, subst, subst₂, arith, lt-ltb, le-ltb}
 use Rattle.std.specs.Prelude.{nat_lt}
-use Rattle.std.proofs.lemmas.List.{take_all}
+use Rattle.std.proofs.lemmas.List.{take_all, length-append, length-map}
+use Rattle.std.proofs.Math.Nat.{mod-lt}
 use Rattle.std.proofs.lemmas.Option.{get_or_from_slice_get}
 use native.Mathlib.Decide.{dec_lt}
 use Rattle.rand_core.specs.Stream.{Stream, next_u32}
@@ -15,7 +16,7 @@ use Rattle.tri_check.specs.Problems.{IsProblem}
 use Rattle.replay.proofs.Unique.{found_in}
 use Rattle.plan_law.proofs.Proved.{moves_are_made}
 use Rattle.plan_moves.specs.Ways.{Follows, Walks}
-use Rattle.plan_moves.proofs.Lowered.{instance_of}
+use Rattle.plan_moves.proofs.Lowered.{instance_of, there}
 
 -- ---- words
 pub words_more : (n : ℕ) (s : Stream) → first_words next_u32 (suc n) s ≡ (next_u32 s).0 ∷ first_words next_u32 n (next_u32 s).1
@@ -39,16 +40,52 @@ pub picked_at : (moves : List (List Edge)) (word : ℕ) (move : List Edge) → s
 picked_at [] word move e = absurd (cc)
 picked_at (first ∷ more) word move e = ap (λ m. Some m) (get_or_from_slice_get (first ∷ more) (word % length (first ∷ more)) move [] e)
 
--- the move that a word picks is made
-pub makes_move : (start points : List Point) (inputs : List (List Edge)) (plan was next : Plan) (list : List (List Edge)) (word n : ℕ) (move made edges : List Edge) (all : Bool)
-    → IsProblem start inputs → IsPlanOf start inputs plan → list ≡ moves start plan → n ≡ length list → slice_get list (word % n) ≡ Some move → points ≡ start → was ≡ plan → Follows points was move all next → edges ≡ made ++ move
-    → Walks start plan made word true next edges
-makes_move start points inputs plan was next list word n move made edges all I h e l s same kept f j =
-    (move, subst (λ ms. picked ms word ≡ Some move) e (picked_at list word move there), by_made (moves_are_made start inputs plan move (instance_of start inputs I) h (subst (λ ms. Contains ms move) e (found_in list (word % length list) move there))), j)
-  where
-    there : slice_get list (word % length list) ≡ Some move
-    there = subst (λ k. slice_get list (word % k) ≡ Some move) l s
+picked_listed : (list : List (List Edge)) (word : ℕ) (move : List Edge) → picked list word ≡ Some move → Contains list move
+picked_listed [] word move e = absurd (cc)
+picked_listed (first ∷ more) word move e =
+    let m : get_or (first ∷ more) (word % length (first ∷ more)) [] ≡ move = cc in
+    found_in (first ∷ more) (word % length (first ∷ more)) move (there (first ∷ more) (word % length (first ∷ more)) [] move (mod-lt word (omega arith)) m)
 
+-- ---- the move that a word picks: one of some edges, or a later move
+both_long : (es : List Edge) (more : List (List Edge)) → length (map (λ f. f ∷ []) es ++ more) ≡ length es + length more
+both_long es more = length-append (map (λ f. f ∷ []) es) more ∙ ap (λ n. n + length more) (length-map es (λ f. f ∷ []))
+
+single_at : (es : List Edge) (more : List (List Edge)) (i : ℕ) (e : Edge) → slice_get es i ≡ Some e → slice_get (map (λ f. f ∷ []) es ++ more) i ≡ Some (e ∷ [])
+single_at [] more i e h = absurd (cc)
+single_at (f ∷ es) more zero e h = let s : f ≡ e = cc in ap (λ g. Some (g ∷ [])) s
+single_at (f ∷ es) more (suc i) e h = single_at es more i e h
+
+later_at : (es : List Edge) (more : List (List Edge)) (i j : ℕ) (move : List Edge) → i ≡ length es + j → slice_get more j ≡ Some move → slice_get (map (λ f. f ∷ []) es ++ more) i ≡ Some move
+later_at [] more i j move e h = let s : i ≡ j = omega (arith, e) in subst (λ k. slice_get more k ≡ Some move) (sym s) h
+later_at (f ∷ es) more zero j move e h = absurd (omega (arith, e))
+later_at (f ∷ es) more (suc i) j move e h = later_at es more i j move (omega (arith, e)) h
+
+module _ (es : List Edge) (more : List (List Edge)) (word n place : ℕ) (l : n ≡ length es + length more) (p : place ≡ word % n) where
+  same_place : place ≡ word % length (map (λ f. f ∷ []) es ++ more)
+  same_place = p ∙ ap (λ m. word % m) (l ∙ sym (both_long es more))
+
+  pub picks_single : (e : Edge) → slice_get es place ≡ Some e → Some (e ∷ []) ≡ picked (map (λ f. f ∷ []) es ++ more) word
+  picks_single e h = sym (picked_at (map (λ f. f ∷ []) es ++ more) word (e ∷ []) (subst (λ k. slice_get (map (λ f. f ∷ []) es ++ more) k ≡ Some (e ∷ [])) same_place (single_at es more place e h)))
+
+  pub picks_later : (j : ℕ) (move : List Edge) → place ≡ length es + j → slice_get more j ≡ Some move → Some move ≡ picked (map (λ f. f ∷ []) es ++ more) word
+  picks_later j move e h = sym (picked_at (map (λ f. f ∷ []) es ++ more) word move (subst (λ k. slice_get (map (λ f. f ∷ []) es ++ more) k ≡ Some move) same_place (later_at es more place j move e h)))
+
+pub picks_none : (es : List Edge) (more : List (List Edge)) (word : ℕ) → length es + length more ≡ 0 → None ≡ picked (map (λ f. f ∷ []) es ++ more) word
+picks_none [] [] word e = refl
+picks_none [] (move ∷ more) word e = absurd (omega (arith, e))
+picks_none (f ∷ es) more word e = absurd (omega (arith, e))
+
+-- where there is no move, no edge is one
+pub no_single : (es : List Edge) (more : List (List Edge)) → map (λ f. f ∷ []) es ++ more ≡ [] → es ≡ []
+no_single [] more e = refl
+no_single (f ∷ es) more e = absurd (cc)
+
+-- ---- the move is made
+pub makes_move : (start points : List Point) (inputs : List (List Edge)) (plan was next : Plan) (word : ℕ) (move made edges : List Edge) (all : Bool) → IsProblem start inputs → IsPlanOf start inputs plan → Some move ≡ picked (moves start plan) word → points ≡ start → was ≡ plan
+    → Follows points was move all next → edges ≡ made ++ move → Walks start plan made word true next edges
+makes_move start points inputs plan was next word move made edges all I h p same kept f j =
+    (move, sym p, by_made (moves_are_made start inputs plan move (instance_of start inputs I) h (picked_listed (moves start plan) word move (sym p))), j)
+  where
     by_made : (end : Plan) × (followed_all start plan move ≡ Some end) → followed_all start plan move ≡ Some next
     by_made (end, i) = by_all all (subst₂ (λ ps p. Follows ps p move all next) same kept f)
       where

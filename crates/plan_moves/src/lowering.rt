@@ -1,6 +1,7 @@
 // Which moves lower the total of a plan.
-ghost use Rattle.std.specs.Prelude.{◌≡◌, ◌≤◌, ◌∷◌, [], length, find, IfOk};
+ghost use Rattle.std.specs.Prelude.{◌≡◌, ◌≤◌, ◌↔◌, ◌∷◌, [], length, find, IsTrue, IfOk};
 ghost use Rattle.plan_law.specs.Plans.{lowers, first_lowering};
+ghost use Rattle.plan_moves.specs.Singles.{HasLeastSingle, ComesFirst, IsLesser, IsAlone};
 ghost use Rattle.plan_moves.specs.Ways.{Follows};
 
 use edge_table::{Edge, EdgeSeq};
@@ -32,16 +33,6 @@ fn lowers_by_one(plan: &Plan, e: Edge) -> bool
     plan.flips(e) && plan.total_after(e) < total
 }
 
-// The same for edges that are followed one after the other, on a copy of the plan.
-fn lowers_on_copy(plan: &Plan, edges: &EdgeSeq) -> Result<bool, AllocError>
-    ensures { IfOk result (λ b. b ≡ lowers plan.now.problem.points plan.now.plan edges.now) }
-{
-    let mut copy = plan.copy()?;
-    copy.reserve(edges.len())?;
-    let followed = follow_in_turn(&mut copy, edges);
-    Ok(followed && copy.total() < plan.total())
-}
-
 // Whether a move lowers the total.
 fn lowers_by(plan: &Plan, edges: &EdgeSeq) -> Result<bool, AllocError>
     ensures { IfOk result (λ b. b ≡ lowers plan.now.problem.points plan.now.plan edges.now) }
@@ -49,7 +40,7 @@ fn lowers_by(plan: &Plan, edges: &EdgeSeq) -> Result<bool, AllocError>
     if edges.len() == 1 {
         Ok(lowers_by_one(plan, *edges.at(0)))
     } else {
-        lowers_on_copy(plan, edges)
+        plan.lowers(edges)
     }
 }
 
@@ -65,10 +56,50 @@ fn first_of(plan: &Plan, moves: &MoveList) -> Result<Option<EdgeSeq>, AllocError
     Ok(None)
 }
 
-/// The first move that lowers the total, as `Plan::moves` lists them. A move of one edge is tried without a copy of the plan, and a move of several on one.
+// Whether an edge comes before that of a move of one edge, or there is no move.
+fn comes_first(e: Edge, found: &Option<EdgeSeq>) -> bool
+    requires { IsAlone found.now }
+    ensures { IsTrue result ↔ ComesFirst e found.now }
+{
+    match found {
+        Some(edges) => e.cmp(edges.at(0)).is_lt(),
+        None => true,
+    }
+}
+
+// Whether a move is of one edge that lowers the total and comes before the one that was found so far.
+fn is_lesser(plan: &Plan, edges: &EdgeSeq, found: &Option<EdgeSeq>) -> bool
+    requires { IsAlone found.now }
+    ensures { IsTrue result ↔ IsLesser (lowers plan.now.problem.points plan.now.plan) found.now edges.now }
+{
+    if edges.len() != 1 {
+        return false;
+    }
+    let e = *edges.at(0);
+    comes_first(e, found) && lowers_by_one(plan, e)
+}
+
+// The move of the least edge, among the moves of one edge that lower the total.
+fn least_single(plan: &Plan, moves: &MoveList) -> Result<Option<EdgeSeq>, AllocError>
+    ensures { IfOk result (HasLeastSingle (lowers plan.now.problem.points plan.now.plan) moves.now (length moves.now)) }
+{
+    let mut least: Option<EdgeSeq> = None;
+    for i in 0..moves.len() {
+        if is_lesser(plan, moves.at(i), &least) {
+            least = Some(moves.at(i).copy()?);
+        }
+    }
+    Ok(least)
+}
+
+/// The first move that lowers the total, as `Plan::moves` lists them. A move of one edge lowers it only where that edge is the whole last round of a list, so only the last moves are tried. None is tried on a copy of the plan: one of one edge by `Plan::total_after`, and one of several by `Plan::lowers`.
 pub fn first_move(plan: &Plan) -> Result<Option<EdgeSeq>, AllocError>
     ensures { IfOk result (λ first. first ≡ first_lowering plan.now.problem.points plan.now.plan) }
 {
-    let moves = plan.moves()?;
-    first_of(plan, &moves)
+    let _ = plan.total();
+    let moves = plan.last_moves()?;
+    match least_single(plan, &moves)? {
+        Some(edges) => Ok(Some(edges)),
+        None => first_of(plan, &moves),
+    }
 }

@@ -27,7 +27,7 @@ fn step(plan: &mut Plan, made: &mut MoveList) -> Result<bool, AllocError>
 
 /// Makes the first move that lowers the total until none is left, and answers the moves made, in order. The moves of a plan are those that `Plan::moves` lists.
 ///
-/// A move of one edge is tried without a copy of the plan, and a move of several on one. The total falls by each move, so there are at most as many moves as its first value.
+/// No move is tried on a copy of the plan (`first_move`). The total falls by each move, so there are at most as many moves as its first value.
 pub fn settle(alloc: Global, plan: &mut Plan) -> Result<MoveList, AllocError>
     ensures problem { plan.new.problem ≡ plan.old.problem }
     ensures total { plan_total plan.new.plan ≤ plan_total plan.old.plan }

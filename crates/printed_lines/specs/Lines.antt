@@ -90,6 +90,10 @@ total_line total = line (codes "total" ∷ decimal total ∷ [])
 abbrev pub solved_line : ℕ → ℕ → List ℕ
 solved_line total bound = line (codes "total" ∷ decimal total ∷ codes "bound" ∷ decimal bound ∷ [])
 
+-- the total of the first plan and of the last, and a number that no plan has a total below
+abbrev pub opening_line : ℕ → ℕ → ℕ → List ℕ
+opening_line opening total bound = line (codes "opening" ∷ decimal opening ∷ codes "total" ∷ decimal total ∷ codes "bound" ∷ decimal bound ∷ [])
+
 -- the run of the input with this place is longer than the budget
 abbrev pub budget_line : ℕ → List ℕ
 budget_line t = line (codes "flip" ∷ codes "budget" ∷ decimal t ∷ [])

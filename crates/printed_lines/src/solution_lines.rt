@@ -1,6 +1,6 @@
 // The lines of totals and of refused solutions.
 ghost use Rattle.std.specs.Prelude.{◌≡◌, ◌≢◌, [], ◌∷◌, IfOk, string_bytes};
-ghost use Rattle.printed_lines.specs.Lines.{line, solution_refused, total_line, solved_line, budget_line, solution_form_line, other_uid_line, round_line, input_count_line, no_common_centre_line, score_fault_line};
+ghost use Rattle.printed_lines.specs.Lines.{line, solution_refused, total_line, solved_line, opening_line, budget_line, solution_form_line, other_uid_line, round_line, input_count_line, no_common_centre_line, score_fault_line};
 
 use crate::fault_words::input_round_words;
 use replay::{RoundFault, ScoreFault};
@@ -19,6 +19,18 @@ pub fn solved_text(alloc: Global, total: u128, bound: u128) -> Result<String, Al
     ensures { IfOk result (λ s. string_bytes s ≡ solved_line total bound) }
 {
     format!(in alloc; "total {total} bound {bound}\n")
+}
+
+/// The rounds of the first plan and of the last, and a number that no plan has fewer rounds than.
+pub fn opening_text(
+    alloc: Global,
+    opening: u128,
+    total: u128,
+    bound: u128,
+) -> Result<String, AllocError>
+    ensures { IfOk result (λ s. string_bytes s ≡ opening_line opening total bound) }
+{
+    format!(in alloc; "opening {opening} total {total} bound {bound}\n")
 }
 
 /// The first input whose run is longer than the budget.

@@ -2,6 +2,8 @@
 #![tactic(auto)]
 
 #[cfg(test)]
+mod benching;
+#[cfg(test)]
 mod checking;
 #[cfg(test)]
 mod device_faults;

@@ -21,5 +21,8 @@ returns-in-Ok-Verify c = no_workers_asked (texts c.args.words.now) c.in-Ok-Verif
 pub returns-in-Ok-Trace : goal.returns-in-Ok-Trace
 returns-in-Ok-Trace c = no_workers_asked (texts c.args.words.now) c.in-Ok-Trace.field-0 c.in-Ok-Trace.ensures.asked (ap (λ a. workers_in a) c.in-Ok-Trace.field-0-is)
 
+pub returns-in-Ok-Bench : goal.returns-in-Ok-Bench
+returns-in-Ok-Bench c = no_workers_asked (texts c.args.words.now) c.in-Ok-Bench.field-0 c.in-Ok-Bench.ensures.asked (ap (λ a. workers_in a) c.in-Ok-Bench.field-0-is)
+
 pub returns-in-Err-Words : goal.returns-in-Err-Words
 returns-in-Err-Words c = no_words_asked (texts c.args.words.now) (c.in-Err-Words.ensures.words (ap (λ e. Err e) c.in-Err-Words.field-0-is))

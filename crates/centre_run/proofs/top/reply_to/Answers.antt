@@ -1,15 +1,15 @@
 use Rattle.std.proofs.Common.{inr, refl, sym, ap, subst, string_bytes, Err}
 use Rattle.std.proofs.lemmas.Result.{IfOk-weaker}
-use Rattle.centre_words.specs.declared.asked.Asked.TheVariants.{Check, Score, Solve, Verify, Trace}
+use Rattle.centre_words.specs.declared.asked.Asked.TheVariants.{Check, Score, Solve, Verify, Trace, Bench}
 use Rattle.centre_words.specs.Words.{texts, Asks}
 use Rattle.host_io.specs.Store.{Rose}
 use Rattle.centre_run.specs.declared.solving.SolveOptions.{SolveOptions}
 use Rattle.centre_run.specs.declared.status.Status.TheVariants.{ReadFault, WriteFault}
 use Rattle.centre_run.specs.Runs.{Does}
 use Rattle.centre_run.specs.Calls.{CallsFor, CommandCalls}
-use Rattle.centre_run.proofs.Calling.{of_asked, check_calls, trace_calls}
+use Rattle.centre_run.proofs.Calling.{of_asked, check_calls, trace_calls, bench_calls}
 use Rattle.centre_words.specs.declared.asked.Asked.{Asked}
-use Rattle.centre_run.proofs.Saying.{command_does, command_breaks_off, words_does, verify_asked, solve_words, command_begins}
+use Rattle.centre_run.proofs.Saying.{command_does, bench_does, command_breaks_off, words_does, verify_asked, solve_words, command_begins}
 use Rattle.centre_run.proofs.top.reply_to.Goals as goal
 
 pub returns-in-Ok-Check-clause-does : goal.returns-in-Ok-Check-clause-does
@@ -195,3 +195,21 @@ returns-in-Ok-Solve-clause-memory g c = λ wanted.
     let options : SolveOptions = record { workers = o.workers; turns = o.turns; seed = o.seed; flips = o.flips } in
     let asks = solve_words words o.instance o.solution o.certificate first second third options c.text-in-Ok-Solve-3.ensures.bytes c.text-in-Ok-Solve.ensures.bytes c.text-in-Ok-Solve-2.ensures.bytes (subst (λ a. Asks words a) o.field-0-is o.ensures.asked) in
     command_begins words (g.S.Store.held c.args.store.now) (g.S.Store.held c.solve_file.new.store) (Solve first second third o.workers o.turns o.seed o.flips) asks (c.solve_file.ensures.memory wanted)
+
+pub returns-in-Ok-Bench-clause-does : goal.returns-in-Ok-Bench-clause-does
+returns-in-Ok-Bench-clause-does g c =
+    let words = texts c.args.words.now in
+    let held = g.S.Store.held c.args.store.now in
+    let o = c.in-Ok-Bench in
+    let asks = subst (λ a. Asks words a) o.field-0-is o.ensures.asked in
+    IfOk-weaker c.bench_reply.result _ (λ r. Does words held held r.status (string_bytes r.line))
+    (λ r says. command_does words held held (Bench o.seed o.points o.inputs) r.status (string_bytes r.line) asks (bench_does held o.seed o.points o.inputs r.status (string_bytes r.line) says)) c.bench_reply.ensures.says
+
+pub returns-in-Ok-Bench-clause-called : goal.returns-in-Ok-Bench-clause-called
+returns-in-Ok-Bench-clause-called g c =
+    let words = texts c.args.words.now in
+    let o = c.in-Ok-Bench in
+    let asks = subst (λ a. Asks words a) o.field-0-is o.ensures.asked in
+    let now = g.S.Store.calls c.args.store.now in
+    IfOk-weaker c.bench_reply.result _ (λ r. (d : Asked) → Asks words d → CallsFor d r.status now now)
+    (λ r says. of_asked words (λ d. CallsFor d r.status now now) (Bench o.seed o.points o.inputs) asks (bench_calls o.seed o.points o.inputs r.status (string_bytes r.line) now says)) c.bench_reply.ensures.says

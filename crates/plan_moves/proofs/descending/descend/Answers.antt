@@ -11,7 +11,7 @@ returns c =
     let end = ap (λ (l : Layout). l.edges) c.in_ok-to_triang.ensures in
     c.judge.ensures
     ∙ answered c.args.plan.now.problem.points c.args.plan.now.problem.inputs c.args.plan.now.plan c.args.t c.cost-held.result c.in_ok-rounds.rounds c.run_down.new.mesh.edges c.same-reached.result
-    (run_at (ap (λ (l : Layout). l.points) c.in_ok-mesh.ensures ∙ (c.input.ensures.points ∙ ap (λ (p : Problem). p.points) (c.deref.ensures ∙ c.inst.ensures))) c.in_ok-centre.ensures.edges
+    (run_at (ap (λ (l : Layout). l.points) c.in_ok-mesh.ensures ∙ (c.input.ensures.points ∙ ap (λ (p : Problem). p.points) (c.deref.ensures ∙ c.inst.ensures))) (ap (λ (l : Layout). l.edges) c.in_ok-weights.ensures ∙ c.in_ok-centre.ensures.edges)
     (ap (λ (l : Layout). l.edges) c.in_ok-mesh.ensures
     ∙ sym (ap (λ (p : Problem). input_at p.inputs c.args.t) (sym (c.deref.ensures ∙ c.inst.ensures)) ∙ get_or_from_slice_get c.deref.result.now.inputs c.args.t c.input.result.now.edges [] c.input.ensures.edges))
     c.in_ok-rounds.ensures.ok)

@@ -15,7 +15,7 @@ loop-init g c = record {
 pub returns-in_err-make_move-clause-words : goal.returns-in_err-make_move-clause-words
 returns-in_err-make_move-clause-words g c =
     draws c.args.plan.now.problem.points c.args.plan.now.plan (g.R.Rng.stream c.args.words.now) c.loop.counter c.loop.made c.loop.walked.plan (g.R.Rng.stream c.loop.words) c.loop.invariant.walking c.next_u32.result (g.R.Rng.stream c.next_u32.new.self) c.next_u32.ensures
-    (omega arith) (λ e. true≢false (sym (c.is_empty-2.ensures.1 (c.in_ok-moves.ensures ∙ e)) ∙ c.if-is_empty.false))
+    (omega arith) (λ e. true≢false (sym (c.in_ok-has_no_move.ensures.1 e) ∙ c.if-branch.false))
 
 pub returns-then-not-branch-clause-ok : goal.returns-then-not-branch-clause-ok
 returns-then-not-branch-clause-ok g c =
@@ -25,7 +25,7 @@ returns-then-not-branch-clause-ok g c =
 pub returns-then-not-branch-clause-words : goal.returns-then-not-branch-clause-words
 returns-then-not-branch-clause-words g c =
     draws c.args.plan.now.problem.points c.args.plan.now.plan (g.R.Rng.stream c.args.words.now) c.loop.counter c.loop.made c.loop.walked.plan (g.R.Rng.stream c.loop.words) c.loop.invariant.walking c.next_u32.result (g.R.Rng.stream c.next_u32.new.self) c.next_u32.ensures
-    (omega arith) (λ e. true≢false (sym (c.is_empty-2.ensures.1 (c.in_ok-moves.ensures ∙ e)) ∙ c.if-is_empty.false))
+    (omega arith) (λ e. true≢false (sym (c.in_ok-has_no_move.ensures.1 e) ∙ c.if-branch.false))
 
 pub returns-then-total-start-clause-ok : goal.returns-then-total-start-clause-ok
 returns-then-total-start-clause-ok g c =
@@ -35,7 +35,7 @@ returns-then-total-start-clause-ok g c =
 pub returns-then-total-start-clause-words : goal.returns-then-total-start-clause-words
 returns-then-total-start-clause-words g c =
     draws c.args.plan.now.problem.points c.args.plan.now.plan (g.R.Rng.stream c.args.words.now) c.loop.counter c.loop.made c.loop.walked.plan (g.R.Rng.stream c.loop.words) c.loop.invariant.walking c.next_u32.result (g.R.Rng.stream c.next_u32.new.self) c.next_u32.ensures
-    (omega arith) (λ e. true≢false (sym (c.is_empty-2.ensures.1 (c.in_ok-moves.ensures ∙ e)) ∙ c.if-is_empty.false))
+    (omega arith) (λ e. true≢false (sym (c.in_ok-has_no_move.ensures.1 e) ∙ c.if-branch.false))
 
 pub loop-preserved : goal.loop-preserved
 loop-preserved g c = record {
@@ -52,4 +52,4 @@ returns-clause-ok g c =
 pub returns-clause-words : goal.returns-clause-words
 returns-clause-words g c =
     drawn c.args.plan.now.problem.points c.args.plan.now.plan (g.R.Rng.stream c.args.words.now) c.loop.counter c.loop.made c.loop.walked.plan (g.R.Rng.stream c.loop.words) c.loop.invariant.walking (omega arith)
-    (λ e. true≢false (sym (c.is_empty-2.ensures.1 (c.in_ok-moves.ensures ∙ e)) ∙ c.if-is_empty.false))
+    (λ e. true≢false (sym (c.in_ok-has_no_move.ensures.1 e) ∙ c.if-branch.false))

@@ -1,0 +1,9 @@
+pub mod Directions
+pub mod Growth
+pub mod Heights
+pub mod Joins
+pub mod Ordered
+pub mod Proved
+pub mod Rays
+pub mod Sides
+pub mod Sight
