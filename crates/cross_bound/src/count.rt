@@ -9,7 +9,7 @@ use crate::walk::walk;
 use edge_table::Edge;
 use flip_mesh::Mesh;
 
-/// How many members of a mesh cross a segment of the points. It walks along the segment from triangle to triangle: with m edges it takes O(log m) steps for each of them, and for each member that it turns over at the segment's low end.
+/// How many members of a mesh cross a segment of the points. It walks along the segment from triangle to triangle: it takes O(1) steps on average for each of them, and for each member that it turns over at the segment's low end.
 pub fn crossings(mesh: &Mesh, e: Edge) -> u32
     requires { IsSegment mesh.now.points e }
     ensures { result ≡ crossings mesh.now.points mesh.now.edges e }

@@ -4,7 +4,7 @@ ghost use Rattle.tri_theory.specs.Points.{IsLeft, turn};
 ghost use Rattle.tri_theory.specs.Triangulations.{AreJoined, IsEmptyTriangle, IsSegment};
 ghost use Rattle.cross_bound.specs.Walks.{IsFirst, IsNonMember};
 
-use crate::walk::{Way, apex, is_left};
+use crate::walk::{Way, is_left};
 use edge_table::Edge;
 use flip_mesh::Mesh;
 
@@ -15,7 +15,7 @@ fn third(mesh: &Mesh, a: u32, b: u32) -> u32
     ensures { IsEmptyTriangle mesh.now.points mesh.now.edges a b result }
 {
     let _ = mesh.points();
-    match apex(mesh, a, b) {
+    match mesh.apex(a, b) {
         Some(c) => c,
         None => unreachable!(),
     }
@@ -62,9 +62,9 @@ fn off_line(mesh: &Mesh, u: u32, near: u32) -> u32
     ensures off { turn mesh.now.points u near result ≢ pos 0 }
 {
     let _ = mesh.points();
-    match apex(mesh, u, near) {
+    match mesh.apex(u, near) {
         Some(c) => c,
-        None => match apex(mesh, near, u) {
+        None => match mesh.apex(near, u) {
             Some(c) => c,
             None => unreachable!(),
         },

@@ -2,9 +2,8 @@
 ghost use Rattle.std.specs.Prelude.{◌≡◌, ◌<◌, ◌<ℤ◌, ◌↔◌, pos, length, IsTrue, IfNone, IfSome};
 ghost use Rattle.geo_orient.specs.Reach.{IsInReach};
 ghost use Rattle.tri_theory.specs.Points.{point, IsLeft};
-ghost use Rattle.tri_theory.specs.Triangulations.{AreJoined, IsEmptyTriangle, IsSegment};
+ghost use Rattle.tri_theory.specs.Triangulations.{IsEmptyTriangle, IsSegment};
 ghost use Rattle.tri_theory.specs.Crossings.{crossings};
-ghost use Rattle.flip_mesh.specs.Answers.{IsApex};
 ghost use Rattle.cross_bound.specs.Walks.{IsCrossed, IsFirst, IsNext};
 
 use edge_table::Edge;
@@ -43,21 +42,6 @@ pub(crate) fn is_left(mesh: &Mesh, a: u32, b: u32, c: u32) -> bool
     is_positive(orient(point_at(mesh, a), point_at(mesh, b), point_at(mesh, c)))
 }
 
-// The third corner of the triangle left of the way from `a` to `b`.
-pub(crate) fn apex(mesh: &Mesh, a: u32, b: u32) -> Option<u32>
-    requires { AreJoined mesh.now.edges a b }
-    ensures { IsApex mesh.now.points mesh.now.edges a b result }
-{
-    let _ = mesh.points();
-    match Edge::of(a, b) {
-        Some(e) => {
-            let wings = mesh.wings(e);
-            if a < b { wings.left } else { wings.right }
-        }
-        None => unreachable!(),
-    }
-}
-
 // The next member that the segment crosses, where it doesn't end in the triangle behind this one.
 fn next_way(mesh: &Mesh, e: Edge, way: Way) -> Option<Way>
     requires segment { IsSegment mesh.now.points e }
@@ -66,7 +50,7 @@ fn next_way(mesh: &Mesh, e: Edge, way: Way) -> Option<Way>
     ensures some { IfSome result (IsNext mesh.now.points mesh.now.edges e way) }
 {
     let _ = mesh.points();
-    match apex(mesh, way.left, way.right) {
+    match mesh.apex(way.left, way.right) {
         Some(z) => {
             if z == e.high() {
                 return None;

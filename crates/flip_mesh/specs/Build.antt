@@ -31,6 +31,10 @@ pub record IsCorner (points : List Point) (edges : List Edge) (u v w : ℕ) : Ty
   pub second : AreJoined edges v w
   pub on_left : IsLeft points u v w
 
+-- w is joined to the one end of the way from u to v, and q is the other end
+abbrev pub IsReached : List Edge → ℕ → ℕ → ℕ → ℕ → Type 0
+IsReached edges u v q w = ((q ≡ v) × AreJoined edges u w) ⊎ ((q ≡ u) × AreJoined edges v w)
+
 -- there is a best corner, and x isn't nearer
 abbrev pub IsNoFarther : List Point → ℕ → ℕ → Option ℕ → Type 0
 IsNoFarther points u x None = ⊥
@@ -40,10 +44,10 @@ IsNoFarther points u x (Some b) = ¬ IsLeft points u x b
 abbrev pub HaveApexes : List Point → List Edge → List Side → Type 0
 HaveApexes points edges sides = (s : Side) → Contains sides s → IsApex points edges s.from s.to s.apex
 
--- none of the corners that the sides from p lead to, at the places from begin to i, is nearer
-abbrev pub SeenFrom : List Point → List Edge → List Side → ℕ → ℕ → ℕ → ℕ → ℕ → Option ℕ → Type 0
-SeenFrom points edges sides u v p begin i best =
-    (k : ℕ) (d : Side) → begin ≤ k → k < i → (slice_index_or sides k d).from ≡ p → IsCorner points edges u v (slice_index_or sides k d).to → IsNoFarther points u (slice_index_or sides k d).to best
+-- none of the corners that the sides at the places from begin to i lead to is nearer
+abbrev pub SeenFrom : List Point → List Edge → List Side → ℕ → ℕ → ℕ → ℕ → Option ℕ → Type 0
+SeenFrom points edges sides u v begin i best =
+    (k : ℕ) (d : Side) → begin ≤ k → k < i → IsCorner points edges u v (slice_index_or sides k d).to → IsNoFarther points u (slice_index_or sides k d).to best
 
 -- the edge of s is added, where s goes from the lower end to the higher one
 pub record AddsForward (old new : List Edge) (s : Side) : Type 0 where

@@ -6,9 +6,10 @@ ghost use Rattle.tri_theory.specs.Triangulations.{AreJoined};
 ghost use Rattle.tri_check.specs.Layouts.{IsTriangulated};
 ghost use Rattle.side_table.specs.Sides.{IsOrderedSides};
 ghost use Rattle.flip_mesh.specs.Answers.{IsApex};
-ghost use Rattle.flip_mesh.specs.Build.{AddsWay, AreWays, IsCorner, IsNoFarther, HaveApexes};
+ghost use Rattle.flip_mesh.specs.Places.{AreBegins};
+ghost use Rattle.flip_mesh.specs.Build.{AddsWay, AreWays, IsCorner, IsReached, IsNoFarther, HaveApexes};
 
-use crate::search::{begin_of, has_way, smaller_end};
+use crate::search::{begins_of, has_fewer, has_way};
 use geo_orient::{Point, orient};
 use side_table::{Side, SideTable};
 use std::alloc::{AllocError, Global};
@@ -49,7 +50,7 @@ fn way_table(alloc: Global, t: &Triang) -> Result<SideTable, AllocError>
 }
 
 // The same in order.
-pub(crate) fn ways(alloc: Global, t: &Triang) -> Result<Vec<Side>, AllocError>
+fn ways(alloc: Global, t: &Triang) -> Result<Vec<Side>, AllocError>
     requires { IsTriangulated t.now.points t.now.edges }
     ensures { IfOk result (λ v. AreWays v.items t.now.edges) }
 {
@@ -84,33 +85,43 @@ fn is_left(t: &Triang, a: u32, b: u32, c: u32) -> bool
     is_positive(orient(point_at(t, a), point_at(t, b), point_at(t, c)))
 }
 
-// Whether `w` is joined to both `u` and `v`, and lies left of the way from `u` to `v`.
-fn is_corner(t: &Triang, items: &[Side], u: u32, v: u32, w: u32) -> bool
+// Whether `w`, which is joined to the one end of the way from `u` to `v`, is joined to `q`, its other end, and lies left of it.
+fn is_corner(t: &Triang, items: &[Side], begins: &[usize], u: u32, v: u32, q: u32, w: u32) -> bool
     requires triangulated { IsTriangulated t.now.points t.now.edges }
     requires ways { AreWays items.now t.now.edges }
+    requires begins { AreBegins items.now (length t.now.points) begins.now }
     requires side { AreJoined t.now.edges u v }
+    requires reached { IsReached t.now.edges u v q w }
     ensures { IsTrue result ↔ IsCorner t.now.points t.now.edges u v w }
 {
-    if !has_way(items, u, w) {
+    if !is_left(t, u, v, w) {
         return false;
     }
-    if !has_way(items, v, w) {
-        return false;
-    }
-    is_left(t, u, v, w)
+    has_way(items, begins, q, w)
 }
 
 // The nearer of the best corner so far and `w`, where `w` is one.
-fn nearer(t: &Triang, items: &[Side], u: u32, v: u32, best: Option<u32>, w: u32) -> Option<u32>
+fn nearer(
+    t: &Triang,
+    items: &[Side],
+    begins: &[usize],
+    u: u32,
+    v: u32,
+    q: u32,
+    best: Option<u32>,
+    w: u32,
+) -> Option<u32>
     requires triangulated { IsTriangulated t.now.points t.now.edges }
     requires ways { AreWays items.now t.now.edges }
+    requires begins { AreBegins items.now (length t.now.points) begins.now }
     requires side { AreJoined t.now.edges u v }
+    requires reached { IsReached t.now.edges u v q w }
     requires corner { IfSome best (IsCorner t.now.points t.now.edges u v) }
     ensures corner { IfSome result (IsCorner t.now.points t.now.edges u v) }
     ensures keeps { (x : ℕ) → IsCorner t.now.points t.now.edges u v x → IsNoFarther t.now.points u x best → IsNoFarther t.now.points u x result }
     ensures here { IsCorner t.now.points t.now.edges u v w → IsNoFarther t.now.points u w result }
 {
-    if !is_corner(t, items, u, v, w) {
+    if !is_corner(t, items, begins, u, v, q, w) {
         return best;
     }
     match best {
@@ -125,51 +136,73 @@ fn nearer(t: &Triang, items: &[Side], u: u32, v: u32, best: Option<u32>, w: u32)
     }
 }
 
-// The third corner of the empty triangle on the left of a side, sought among the points that are joined to its end `p`.
-fn apex_from(t: &Triang, items: &[Side], u: u32, v: u32, p: u32) -> Option<u32>
+// The third corner of the empty triangle on the left of a side, sought among the points that are joined to its end `p`. Its other end is `q`.
+fn apex_from(
+    t: &Triang,
+    items: &[Side],
+    begins: &[usize],
+    u: u32,
+    v: u32,
+    p: u32,
+    q: u32,
+) -> Option<u32>
     requires triangulated { IsTriangulated t.now.points t.now.edges }
     requires ways { AreWays items.now t.now.edges }
+    requires begins { AreBegins items.now (length t.now.points) begins.now }
     requires side { AreJoined t.now.edges u v }
-    requires end { (p ≡ u) ⊎ (p ≡ v) }
+    requires ends { ((p ≡ u) × (q ≡ v)) ⊎ ((p ≡ v) × (q ≡ u)) }
     ensures { IsApex t.now.points t.now.edges u v result }
 {
     let mut best = None;
-    let begin = begin_of(items, p);
-    for i in begin..items.len() {
-        let s = items[i];
-        if s.from != p {
-            break;
-        }
-        best = nearer(t, items, u, v, best, s.to);
+    let p_at = p as usize;
+    for i in begins[p_at]..begins[p_at + 1] {
+        best = nearer(t, items, begins, u, v, q, best, items[i].to);
     }
     best
 }
 
 // The same, sought from the end that fewer points are joined to.
-fn apex_of(t: &Triang, items: &[Side], u: u32, v: u32) -> Option<u32>
+fn apex_of(t: &Triang, items: &[Side], begins: &[usize], u: u32, v: u32) -> Option<u32>
     requires triangulated { IsTriangulated t.now.points t.now.edges }
     requires ways { AreWays items.now t.now.edges }
+    requires begins { AreBegins items.now (length t.now.points) begins.now }
     requires side { AreJoined t.now.edges u v }
     ensures { IsApex t.now.points t.now.edges u v result }
 {
-    let p = smaller_end(items, u, v);
-    apex_from(t, items, u, v, p)
+    if has_fewer(begins, u, v) {
+        apex_from(t, items, begins, u, v, u, v)
+    } else {
+        apex_from(t, items, begins, u, v, v, u)
+    }
 }
 
-// Finds the third corner of each side.
-pub(crate) fn find_apexes(t: &Triang, items: &mut Vec<Side>)
+// Finds the third corner of each side, where the places at which those of each point begin are known.
+fn find_apexes(t: &Triang, begins: &[usize], items: &mut Vec<Side>)
     requires triangulated { IsTriangulated t.now.points t.now.edges }
     requires ways { AreWays items.old.items t.now.edges }
+    requires begins { AreBegins items.old.items (length t.now.points) begins.now }
     ensures ways { AreWays items.new.items t.now.edges }
     ensures apexes { HaveApexes t.now.points t.now.edges items.new.items }
 {
     for i in 0..items.len() {
         let s = items[i];
-        let apex = apex_of(t, items, s.from, s.to);
+        let apex = apex_of(t, items, begins, s.from, s.to);
         items[i] = Side {
             from: s.from,
             to: s.to,
             apex,
         };
     }
+}
+
+// The sides of a triangulation in order, each with its third corner.
+pub(crate) fn sides(alloc: Global, t: &Triang) -> Result<Vec<Side>, AllocError>
+    requires triangulated { IsTriangulated t.now.points t.now.edges }
+    ensures ways { IfOk result (λ v. AreWays v.items t.now.edges) }
+    ensures apexes { IfOk result (λ v. HaveApexes t.now.points t.now.edges v.items) }
+{
+    let mut items = ways(alloc, t)?;
+    let begins = begins_of(alloc, &items, t.points().len() as u32)?;
+    find_apexes(t, &begins, &mut items);
+    Ok(items)
 }

@@ -9,7 +9,7 @@ ghost use Rattle.tri_theory.specs.Triangulations.{AreJoined};
 ghost use Rattle.tri_theory.specs.Flips.{Flips, IsFlip};
 ghost use Rattle.flip_mesh.specs.Answers.{IsApex, IsQuadAt};
 
-use crate::build::{find_apexes, ways};
+use crate::build::sides;
 use crate::turn::turn;
 use edge_table::{Edge, EdgeList, EdgeSeq};
 use geo_orient::{Point, cross};
@@ -37,7 +37,7 @@ pub struct Wings {
 
 /// A triangulation that can be flipped, seen as its points and the ascending list of its edges.
 ///
-/// It keeps each edge in both directions, each with the third corner of the triangle on its left. With m edges, `quad`, `flip`, `has`, `wings` and `near` take O(log m) steps.
+/// It keeps each edge in both directions, each with the third corner of the triangle on its left. `quad`, `flip`, `has`, `wings` and `apex` take O(1) steps on average.
 #[derive(Drop)]
 pub struct Mesh {
     points: Arc<PointList>,
@@ -82,8 +82,7 @@ impl Mesh {
         ensures { IfOk result (λ m. m ≡ t.now) }
     {
         let _ = t.len();
-        let mut items = ways(alloc, t)?;
-        find_apexes(t, &mut items);
+        let items = sides(alloc, t)?;
         let sides = SideTable::of(alloc, &items)?;
         let points = t.points().clone()?;
         Ok(Mesh { points, sides })
@@ -108,8 +107,8 @@ impl Mesh {
         }
     }
 
-    // The third corner on the left of the way from `u` to `v`.
-    fn apex(&self, u: u32, v: u32) -> Option<u32>
+    /// The third corner of the empty triangle on the left of the way from `u` to `v`, in O(1) steps on average. There is none where the two aren't joined or no point lies on that side.
+    pub fn apex(&self, u: u32, v: u32) -> Option<u32>
         ensures corner { IsApex self.now.points self.now.edges u v result }
         ensures in_range { IfSome result (λ w. (u < length self.now.points) × (v < length self.now.points) × (w < length self.now.points)) }
     {

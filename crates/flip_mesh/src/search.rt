@@ -1,18 +1,20 @@
 // Ways in an ordered list of sides, found by halving it.
-ghost use Rattle.std.specs.Prelude.{◌≡◌, ◌⊎◌, ◌↔◌, IsTrue, IfOk, IfErr};
+ghost use Rattle.std.specs.Prelude.{◌≡◌, ℕ, ◌<◌, ◌+◌, ◌↔◌, length, IsTrue, IfOk, IfErr};
 ghost use Rattle.side_table.specs.Sides.{HasSide, IsOrderedSides};
-ghost use Rattle.flip_mesh.specs.Places.{IsSideAt, SideBelongsAt, BeginsAt};
+ghost use Rattle.flip_mesh.specs.Places.{IsSideAt, LiesBetween, SideBelongsAt, BeginsAt, AreBegins};
 
 use side_table::Side;
+use std::alloc::{AllocError, Global};
 
-// Where the way from `u` to `v` is, or where it belongs.
-fn place(items: &[Side], u: u32, v: u32) -> Result<usize, usize>
-    requires { IsOrderedSides items.now }
+// Where the way from `u` to `v` is, or where it belongs. It lies between two places.
+fn place_between(items: &[Side], from: usize, to: usize, u: u32, v: u32) -> Result<usize, usize>
+    requires ordered { IsOrderedSides items.now }
+    requires between { LiesBetween items.now u v from to }
     ensures found { IfOk result (IsSideAt items.now u v) }
     ensures belongs { IfErr result (SideBelongsAt items.now u v) }
 {
-    let mut low = 0;
-    let mut high = items.len();
+    let mut low = from;
+    let mut high = to;
     while low < high {
         let middle = low + (high - low) / 2;
         let s = items[middle];
@@ -28,43 +30,59 @@ fn place(items: &[Side], u: u32, v: u32) -> Result<usize, usize>
     Err(low)
 }
 
-// Whether the way from `u` to `v` is there.
-pub(crate) fn has_way(items: &[Side], u: u32, v: u32) -> bool
-    requires { IsOrderedSides items.now }
-    ensures { IsTrue result ↔ HasSide items.now u v }
-{
-    match place(items, u, v) {
-        Ok(_) => true,
-        Err(_) => false,
-    }
-}
-
 // Where the sides from `u` begin.
-pub(crate) fn begin_of(items: &[Side], u: u32) -> usize
+fn begin_of(items: &[Side], u: u32) -> usize
     requires { IsOrderedSides items.now }
     ensures { BeginsAt items.now u result }
 {
-    match place(items, u, 0) {
+    match place_between(items, 0, items.len(), u, 0) {
         Ok(i) => i,
         Err(i) => i,
     }
 }
 
-// How many sides come from `u`.
-fn degree(items: &[Side], u: u32) -> usize
-    requires { IsOrderedSides items.now }
+// Where the sides of each of so many points begin, and after them where the list ends.
+pub(crate) fn begins_of(
+    alloc: Global,
+    items: &[Side],
+    points: u32,
+) -> Result<Vec<usize>, AllocError>
+    requires ordered { IsOrderedSides items.now }
+    requires few { points < 4294967295 }
+    ensures { IfOk result (λ v. AreBegins items.now points v.items) }
 {
-    begin_of(items, u.saturating_add(1)).saturating_sub(begin_of(items, u))
+    let mut begins = Vec::new(alloc);
+    for u in 0..points + 1 {
+        begins.push(begin_of(items, u))?;
+    }
+    Ok(begins)
 }
 
-// The end that fewer sides come from.
-pub(crate) fn smaller_end(items: &[Side], u: u32, v: u32) -> u32
-    requires { IsOrderedSides items.now }
-    ensures { (result ≡ u) ⊎ (result ≡ v) }
+// Whether the way from `u` to `v` is there.
+pub(crate) fn has_way(items: &[Side], begins: &[usize], u: u32, v: u32) -> bool
+    requires ordered { IsOrderedSides items.now }
+    requires begins { (points : ℕ) × AreBegins items.now points begins.now × (u < points) }
+    ensures { IsTrue result ↔ HasSide items.now u v }
 {
-    if degree(items, u) <= degree(items, v) {
-        u
-    } else {
-        v
+    let u_at = u as usize;
+    match place_between(items, begins[u_at], begins[u_at + 1], u, v) {
+        Ok(_) => true,
+        Err(_) => false,
     }
+}
+
+// How many sides come from `u`.
+fn degree(begins: &[usize], u: u32) -> usize
+    requires { u + 1 < length begins.now }
+{
+    let u_at = u as usize;
+    begins[u_at + 1].saturating_sub(begins[u_at])
+}
+
+// Whether no more sides come from `u` than from `v`.
+pub(crate) fn has_fewer(begins: &[usize], u: u32, v: u32) -> bool
+    requires first { u + 1 < length begins.now }
+    requires second { v + 1 < length begins.now }
+{
+    degree(begins, u) <= degree(begins, v)
 }

@@ -6,5 +6,5 @@ use Rattle.flip_mesh.proofs.build.apex_from.Given as goal
 abbrev pub invariant-loop-i : goal.invariant-loop-i
 invariant-loop-i l = record {
   corner : IfSome l.best (IsCorner l.t.points l.t.edges l.u l.v);
-  nearest : SeenFrom l.t.points l.t.edges l.items l.u l.v l.p l.begin l.i l.best;
+  nearest : SeenFrom l.t.points l.t.edges l.items l.u l.v l.initial.i l.i l.best;
 }
