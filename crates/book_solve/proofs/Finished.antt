@@ -1,35 +1,32 @@
 -- The turns of a run and its finish leave a solved book.
-use Rattle.std.proofs.Common.{◌≡◌, ◌≢◌, ◌∙◌, ℕ, zero, suc, ◌<◌, Option, Some, None, List, ◌++◌, length, sym, ap, subst, refl, arith}
+use Rattle.std.proofs.Common.{◌≡◌, ◌≢◌, ◌∙◌, ◌⊎◌, inl, inr, ℕ, zero, suc, Some, List, ◌++◌, length, sym, ap, subst}
 use Rattle.std.specs.Prelude.{slice_get, filter}
 use Rattle.std.proofs.lemmas.List.{map-append}
 use Rattle.std.proofs.lemmas.List.Elements.{filter-append}
 use Rattle.tri_check.specs.Problems.{Problem}
 use Rattle.flip_cnf.specs.HeldFrames.{HeldFrame}
-use Rattle.pair_rows.specs.declared.row.Row as row
 use Rattle.plan_law.specs.Plans.{Plan}
 use Rattle.plan_law.specs.Books as law
 use Rattle.plan_law.specs.Books.{PairRow, row_of, is_plan_entry, opening_state}
-use Rattle.plan_law.specs.Jobs.{Compares, turn_count, job}
 use Rattle.plan_law.specs.Solving.{turns_of, AreLines}
 use Rattle.plan_core.specs.HeldPlans.{HeldPlan}
 use Rattle.book_core.specs.declared.entry.Entry.{Entry}
-use Rattle.book_core.specs.declared.entry.Entry.TheVariants as entry
-use Rattle.book_core.specs.Entries.{Shown, pair_row, line_of, lines_of, rows_in}
+use Rattle.book_core.specs.Entries.{Shown, line_of, lines_of, rows_in}
 use Rattle.book_core.specs.HeldBooks.{HeldBook, ground_of, now_of}
 use Rattle.worker_pool.specs.declared.limits.Limits.{Limits}
 use Rattle.worker_pool.specs.declared.outcome.Outcome.{Outcome}
 use Rattle.worker_pool.specs.declared.outcome.Outcome.TheVariants.{NoMemory}
 use Rattle.worker_pool.specs.Jobs.{order_of}
-use Rattle.worker_pool.specs.Runs.{AreTurns}
+use Rattle.worker_pool.specs.Runs.{AreTurns, IsCompared, HaveRows}
 use Rattle.worker_pool.specs.Finishes.{moves_of, IsFinished}
+use Rattle.worker_pool.proofs.Compared.{row_owned, have_rows}
+use Rattle.worker_pool.proofs.Rows.{IsRowOf, rows_are, row_found}
 use Rattle.book_solve.specs.declared.order.Order.{Order}
 use Rattle.book_solve.specs.Solved.{IsOpeningPlan, limits_of, turns_for, plan_lines, HasEarnedRow, AreLinesBy, IsSolvedBook}
 use Rattle.book_solve.specs.Crews.{AreTurnsBy, IsRun}
 use Rattle.book_solve.specs.Laws.{TurnsAndFinishSolve}
-use Rattle.book_solve.proofs.Lines.{there_is}
-use Rattle.book_solve.proofs.Numbers.{turn_comparing}
-use Rattle.book_solve.proofs.Rows.{rows_are, row_found, same_rows, lines_at_end}
-use Rattle.book_solve.proofs.Turns.{row_earned, row_made, are_lines}
+use Rattle.book_solve.proofs.Rows.{same_rows, lines_at_end}
+use Rattle.book_solve.proofs.Turns.{are_lines}
 use Rattle.book_solve.proofs.InOrder.{are_lines_in_order}
 use Rattle.book_solve.proofs.OfWorkers.{are_lines_of_workers}
 
@@ -65,7 +62,7 @@ module _ (order : Order) (run end : HeldBook) (outcomes : List Outcome) where
     answers = subst (λ (plan : Plan). AreLines (turns_for run.problem order) run.problem.points run.problem.inputs plan (plan_lines run.journal) F.moves (now_of end).plan) (sym opening) (are_lines (limits_of run.problem order) R.frame (ground_of run) run.journal outcomes turns F.moves (now_of end).plan R.one_each F.settles);
     others = subst (λ (plan : Plan). AreLinesBy order.workers (turns_for run.problem order) run.problem.points run.problem.inputs plan (plan_lines run.journal)) (sym opening) (others_are (limits_of run.problem order) R.frame (ground_of run) run.journal outcomes order.workers R.turns R.one_each memory);
     settled = F.settled;
-    rows = λ i j up below. by_turn i j (turn_comparing order.turns (length run.problem.inputs) i j up below);
+    rows = λ i j up below. has_row i j (rows.each i j up below);
     best = F.best;
   }
     where
@@ -81,22 +78,25 @@ module _ (order : Order) (run end : HeldBook) (outcomes : List Outcome) where
       end_rows : (now_of end).rows ≡ rows_in run.journal
       end_rows = rows_are end.problem.points end.problem.inputs (opening_state end.opening) end.journal ∙ (ap rows_in F.appended ∙ same_rows run.journal F.packs last F.moves F.pack)
 
-      by_row : (i j : ℕ) (r : Option (PairRow Shown)) → row_of (rows_in run.journal) i j ≡ r → row_of (rows_in run.journal) i j ≢ None → HasEarnedRow run.problem end i j
-      by_row i j None e some = absurd (some e)
-      by_row i j (Some r) e some = by_found (row_found run.journal i j r e)
-        where
-          by_found : (n : ℕ) × (turn : ℕ) × (found : row.Row) × (slice_get run.journal n ≡ Some (entry.Row turn found)) × (pair_row found ≡ r) → HasEarnedRow run.problem end i j
-          by_found (n, turn, found, there, is) = (
-            found,
-            ap (λ (rows : List (PairRow Shown)). row_of rows i j) end_rows ∙ (e ∙ ap Some (sym is)),
-            (R.frame, R.framed, row_earned (limits_of run.problem order) R.frame (ground_of run) run.journal outcomes turns n turn found there),
-          )
+      rows : HaveRows (limits_of run.problem order) (ground_of run) run.journal outcomes
+      rows = have_rows (limits_of run.problem order) R.frame (ground_of run) run.journal outcomes turns R.one_each
 
-      by_turn : (i j : ℕ) → (u : ℕ) × (u < turn_count order.turns (length run.problem.inputs)) × (job order.turns (length run.problem.inputs) u ≡ Compares i j) → HasEarnedRow run.problem end i j
-      by_turn i j (u, l, compares) = by_out (there_is outcomes u (let count = R.one_each in omega (arith, l, count)))
+      run_rows : (now_of run).rows ≡ rows_in run.journal
+      run_rows = rows_are run.problem.points run.problem.inputs (opening_state run.opening) run.journal
+
+      by_row : (i j : ℕ) (r : PairRow Shown) → row_of (now_of run).rows i j ≡ Some r → IsRowOf run.journal i j r → HasEarnedRow run.problem end i j
+      by_row i j r e F = (
+        F.found,
+        ap (λ (rows : List (PairRow Shown)). row_of rows i j) (end_rows ∙ sym run_rows) ∙ (e ∙ ap Some (sym F.is)),
+        (R.frame, R.framed, (row_owned (limits_of run.problem order) R.frame (ground_of run) run.journal outcomes turns F.place F.turn F.found F.there).earned),
+      )
+
+      has_row : (i j : ℕ) → IsCompared (limits_of run.problem order) (ground_of run) run.journal outcomes i j → HasEarnedRow run.problem end i j
+      has_row i j C = by_end C.ends
         where
-          by_out : (out : Outcome) × (slice_get outcomes u ≡ Some out) → HasEarnedRow run.problem end i j
-          by_out (out, e) = by_row i j (row_of (rows_in run.journal) i j) refl (row_made (limits_of run.problem order) R.frame (ground_of run) run.journal outcomes turns u i j out e (λ n. memory u (e ∙ ap Some n)) compares)
+          by_end : ((r : PairRow Shown) × (row_of (now_of run).rows i j ≡ Some r)) ⊎ (slice_get outcomes C.turn ≡ Some NoMemory) → HasEarnedRow run.problem end i j
+          by_end (inl (r, e)) = by_row i j r e (row_found run.journal i j r (ap (λ (rows : List (PairRow Shown)). row_of rows i j) (sym run_rows) ∙ e))
+          by_end (inr e) = absurd (memory C.turn e)
 
 pub turns_and_finish_solve : TurnsAndFinishSolve
 turns_and_finish_solve problem order run end outcomes is R = subst (Solves order run end outcomes) R.problem_is (solves order run end outcomes) R

@@ -1,9 +1,8 @@
 -- The turns of a run in order: they ascend along its journal, and none is missed.
-use Rattle.std.proofs.Common.{◌≡◌, ◌≢◌, ◌∙◌, ◌⊎◌, inl, inr, ℕ, zero, suc, ◌+◌, ◌<◌, ◌≤◌, true, false, Some, None, List, [], ◌∷◌, length, take, All, AllPairs, refl, sym, ap, arith, lt-ltb, le-ltb}
-use Rattle.std.specs.Prelude.{slice_get, slice_index_or, sum_by, nat_lt}
+use Rattle.std.proofs.Common.{◌≡◌, ◌≢◌, ◌∙◌, ◌⊎◌, inl, inr, ℕ, ◌<◌, ◌≤◌, true, false, Some, None, List, length, take, All, AllPairs, refl, sym, ap, arith, lt-ltb, le-ltb}
+use Rattle.std.specs.Prelude.{slice_get, slice_index_or, nat_lt}
 use Rattle.std.proofs.lemmas.Bool.{cases_lt}
 use Rattle.std.proofs.lemmas.List.Kept.{AllPairs-filter}
-use Rattle.std.proofs.lemmas.List.Sums.{sum_by-cons}
 use Rattle.std.proofs.lemmas.Option.{slice_get-get_or}
 use Rattle.geo_orient.specs.declared.Point.{Point}
 use Rattle.edge_table.specs.declared.edge.Edge.{Edge}
@@ -20,31 +19,11 @@ use Rattle.worker_pool.specs.declared.outcome.Outcome.{Outcome}
 use Rattle.worker_pool.specs.declared.outcome.Outcome.TheVariants as outcome
 use Rattle.worker_pool.specs.Jobs.{order_of}
 use Rattle.worker_pool.specs.Outcomes.{plan_at, job_at, answer_on, Fits, made_by}
-use Rattle.worker_pool.specs.Runs.{StandsAt, IsInOrder, entries_below, AreTurnsInOrder}
+use Rattle.worker_pool.specs.Runs.{IsInOrder, entries_below, AreTurnsInOrder}
+use Rattle.worker_pool.proofs.Ordered.{below_grows, stands_is}
 use Rattle.book_solve.specs.Solved.{plan_lines}
-use Rattle.book_solve.proofs.Lines.{same, there_is, first_passed, passed_below}
+use Rattle.book_solve.proofs.Lines.{there_is, first_passed, passed_below}
 use Rattle.book_solve.proofs.Turns.{finding_none, stuck_none, owned_line, no_step}
-
--- ---- sums over the first items
-module _ {X : Type 0} (f : X → ℕ) where
-  below_grows : (xs : List X) (u v : ℕ) (x : X) → slice_get xs u ≡ Some x → u < v → sum_by f (take u xs) + f x ≤ sum_by f (take v xs)
-  below_grows [] u v x e l = absurd (cc)
-  below_grows (y ∷ xs) u zero x e l = absurd (omega (arith, l))
-  below_grows (y ∷ xs) zero (suc v) x e l = let a = sum_by-cons f y (take v xs) in let b = ap f (same y x e) in let c : sum_by f [] ≡ 0 = refl in omega (arith, a, b, c)
-  below_grows (y ∷ xs) (suc u) (suc v) x e l =
-      let h = below_grows xs u v x e (omega (arith, l)) in let a = sum_by-cons f y (take u xs) in let b = sum_by-cons f y (take v xs) in omega (arith, h, a, b)
-
--- ---- where an entry stands
-stands_is : (ground : HeldPlan) (journal : List Entry) (m n : ℕ) (out : Outcome) → IsInOrder ground journal m out → StandsAt out n → (n ≡ m) × (made_by out ≡ 1)
-stands_is ground journal m n (outcome.Published place saved) h s = (sym s ∙ h, refl)
-stands_is ground journal m n (outcome.Kept place) h s = (sym s ∙ h, refl)
-stands_is ground journal m n (outcome.Packed place limit) h s = (sym s ∙ h.0, refl)
-stands_is ground journal m n (outcome.NotBetter base) h s = absurd s
-stands_is ground journal m n (outcome.Stuck base round) h s = absurd s
-stands_is ground journal m n (outcome.Stale base is) h s = absurd s
-stands_is ground journal m n (outcome.Taken i j) h s = absurd s
-stands_is ground journal m n (outcome.NoRise held given) h s = absurd s
-stands_is ground journal m n outcome.NoMemory h s = absurd s
 
 -- ---- the journal of the turns
 module _ (limits : Limits) (frame : HeldFrame) (ground : HeldPlan) (journal : List Entry) (outcomes : List Outcome) (R : AreTurnsInOrder limits frame ground journal outcomes) where

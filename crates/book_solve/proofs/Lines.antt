@@ -1,24 +1,18 @@
 -- What passes a test in a list, and the moves and swaps of a journal.
 use Rattle.std.proofs.Common.{◌≡◌, ◌∙◌, ℕ, zero, suc, ◌<◌, ◌≤◌, Bool, true, false, cond, Some, List, [], ◌∷◌, length, take, drop, filter, All, refl, sym, ap, subst, arith}
-use Rattle.std.specs.Prelude.{slice_get, count_by, option_map}
+use Rattle.std.specs.Prelude.{slice_get, count_by}
 use Rattle.std.proofs.lemmas.List.{take-append-drop}
 use Rattle.std.proofs.lemmas.List.Elements.{filter-append, All-tail}
 use Rattle.std.proofs.lemmas.List.Sums.{length-filter}
-use Rattle.std.proofs.lemmas.Option.{slice_get-map}
 use Rattle.std.proofs.Math.Seq.{take-append_seam}
-use Rattle.geo_orient.specs.declared.Point.{Point}
-use Rattle.edge_table.specs.declared.edge.Edge.{Edge}
 use Rattle.plan_law.specs.Books as law
 use Rattle.plan_law.specs.Books.{State, is_plan_entry, after_entry, state_after}
-use Rattle.plan_law.specs.Solving.{plan_after_all}
 use Rattle.book_core.specs.declared.entry.Entry.{Entry}
 use Rattle.book_core.specs.Entries.{Shown, line_of, lines_of}
+use Rattle.worker_pool.proofs.Ordered.{same}
 
 -- ---- lists
 module _ {X : Type 0} where
-  pub same : (x y : X) → Some x ≡ Some y → x ≡ y
-  same x y e = let i : x ≡ y = cc in i
-
   pub there_is : (xs : List X) (n : ℕ) → n < length xs → (x : X) × (slice_get xs n ≡ Some x)
   there_is [] n l = absurd (omega (arith, l))
   there_is (x ∷ xs) zero l = (x, refl)
@@ -85,19 +79,7 @@ module _ {X : Type 0} (p : X → Bool) where
       by_test false h again = again h
 
 -- ---- the entries of a journal as lines
-pub line_at : (journal : List Entry) (n : ℕ) (x : Entry) → slice_get journal n ≡ Some x → slice_get (lines_of journal) n ≡ Some (line_of x)
-line_at journal n x e = slice_get-map line_of journal n ∙ ap (option_map line_of) e
-
 pub entry_at : (journal : List Entry) (n : ℕ) (line : law.Entry Shown) → slice_get (lines_of journal) n ≡ Some line → (x : Entry) × (slice_get journal n ≡ Some x) × (line_of x ≡ line)
 entry_at [] n line e = absurd (cc)
 entry_at (x ∷ journal) zero line e = (x, refl, same (line_of x) line e)
 entry_at (x ∷ journal) (suc n) line e = entry_at journal n line e
-
--- ---- plans by moves and swaps alone
-module _ (points : List Point) (inputs : List (List Edge)) where
-  pub plan_by_steps : (s : State Shown) (lines : List (law.Entry Shown)) → (state_after points inputs s lines).plan ≡ plan_after_all points inputs s.plan (filter is_plan_entry lines)
-  plan_by_steps s [] = refl
-  plan_by_steps s (law.Move turn edges ∷ lines) = plan_by_steps (after_entry points inputs s (law.Move turn edges)) lines
-  plan_by_steps s (law.Swap turn input rounds ∷ lines) = plan_by_steps (after_entry points inputs s (law.Swap turn input rounds)) lines
-  plan_by_steps s (law.Row turn row ∷ lines) = plan_by_steps (after_entry points inputs s (law.Row turn row)) lines
-  plan_by_steps s (law.Pack turn perm ∷ lines) = plan_by_steps (after_entry points inputs s (law.Pack turn perm)) lines

@@ -17,8 +17,9 @@ use Rattle.worker_pool.specs.declared.outcome.Outcome.TheVariants as outcome
 use Rattle.worker_pool.specs.Jobs.{order_of}
 use Rattle.worker_pool.specs.Outcomes.{plan_at, job_at, answer_on, Fits}
 use Rattle.worker_crew.specs.Crews.{is_stale, AreTurnsOfWorkers}
+use Rattle.worker_pool.proofs.Ordered.{same}
 use Rattle.book_solve.specs.Solved.{plan_lines}
-use Rattle.book_solve.proofs.Lines.{same, there_is}
+use Rattle.book_solve.proofs.Lines.{there_is}
 use Rattle.book_solve.proofs.Turns.{finding_none, stuck_none, no_step}
 
 -- ---- the turns that came too late, where the first outcome is of turn u

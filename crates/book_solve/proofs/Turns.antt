@@ -1,59 +1,33 @@
 -- What the turns of a run say of its journal, in whatever order they were taken.
-use Rattle.std.proofs.Common.{◌≡◌, ◌≢◌, ◌∙◌, ℕ, ◌<◌, true, false, Option, Some, None, List, length, take, filter, All, AllPairs, refl, sym, ap, subst, arith}
+use Rattle.std.proofs.Common.{◌≡◌, ◌≢◌, ◌∙◌, ℕ, ◌<◌, true, false, Some, None, List, length, take, filter, All, AllPairs, sym, ap, subst, arith}
 use Rattle.std.specs.Prelude.{slice_get, slice_index_or}
-use Rattle.std.proofs.lemmas.List.{take_all}
 use Rattle.std.proofs.lemmas.List.Elements.{All-filter}
 use Rattle.std.proofs.lemmas.List.Kept.{AllPairs-filter}
 use Rattle.std.proofs.lemmas.Option.{slice_get_within, slice_get-get_or}
 use Rattle.geo_orient.specs.declared.Point.{Point}
 use Rattle.edge_table.specs.declared.edge.Edge.{Edge}
 use Rattle.flip_cnf.specs.HeldFrames.{HeldFrame}
-use Rattle.pair_rows.specs.declared.row.Row as row
-use Rattle.pair_rows.specs.Rows.{IsEarned}
-use Rattle.pair_rows.specs.Versions.{Pruned}
 use Rattle.plan_law.specs.Plans.{Plan, Settles}
 use Rattle.plan_law.specs.Books as law
 use Rattle.plan_law.specs.Books.{State, is_plan_entry, opening_state, state_after, row_of}
-use Rattle.plan_law.specs.Improvers as improver
-use Rattle.plan_law.specs.Improvers.{walk, descent}
 use Rattle.plan_law.specs.Jobs as jobs
 use Rattle.plan_law.specs.Solving.{turn_of, swap_of, move_of, answer, turns_of, plan_after_all, AreLines}
 use Rattle.plan_core.specs.HeldPlans.{HeldPlan}
 use Rattle.book_core.specs.declared.entry.Entry.{Entry}
 use Rattle.book_core.specs.declared.entry.Entry.TheVariants as entry
-use Rattle.book_core.specs.Entries.{Shown, pair_row, line_of, lines_of, rows_in}
+use Rattle.book_core.specs.Entries.{Shown, pair_row, line_of, lines_of}
 use Rattle.worker_pool.specs.declared.limits.Limits.{Limits}
 use Rattle.worker_pool.specs.declared.outcome.Outcome.{Outcome}
 use Rattle.worker_pool.specs.declared.outcome.Outcome.TheVariants as outcome
 use Rattle.worker_pool.specs.Jobs.{order_of}
-use Rattle.worker_pool.specs.Outcomes.{state_at, plan_at, job_at, answer_on, FindsNone, Sticks, Fits}
+use Rattle.worker_pool.specs.Outcomes.{state_at, job_at, answer_on, FindsNone, Sticks, Fits}
 use Rattle.worker_pool.specs.Turns.{now_at}
 use Rattle.worker_pool.specs.Runs.{StandsAt, AreTurns}
-use Rattle.worker_pool.proofs.Replicas.{length-lines}
+use Rattle.worker_pool.proofs.Compared.{line_at}
+use Rattle.worker_pool.proofs.Ordered.{same, answer_step}
+use Rattle.worker_pool.proofs.Turned.{plan_by_steps}
 use Rattle.book_solve.specs.Solved.{plan_lines}
-use Rattle.book_solve.proofs.Lines.{same, passed_at, of_passed, line_at, entry_at, plan_by_steps}
-use Rattle.book_solve.proofs.Rows.{rows_are, row_there}
-
--- ---- the answer of a turn
-module _ (words : ℕ → List ℕ) (points : List Point) (inputs : List (List Edge)) (plan : Plan) (u : ℕ) where
-  -- it is a move or a swap of this turn
-  abbrev IsStepOf : law.Entry Shown → Type 0
-  IsStepOf line = (turn_of line ≡ u) × (is_plan_entry line ≡ true)
-
-  move_step : (r : Option (List Edge)) (line : law.Entry Shown) → move_of u r ≡ Some line → IsStepOf line
-  move_step (Some edges) line e = subst IsStepOf (same (law.Move u edges) line e) (refl, refl)
-  move_step None line e = absurd (cc)
-
-  swap_step : (input : ℕ) (d : improver.Descent) (line : law.Entry Shown) → swap_of u input d ≡ Some line → IsStepOf line
-  swap_step input (improver.Better rounds) line e = subst IsStepOf (same (law.Swap u input rounds) line e) (refl, refl)
-  swap_step input (improver.NotBetter held given) line e = absurd (cc)
-  swap_step input (improver.Stuck round) line e = absurd (cc)
-
-  answer_step : (j : jobs.Job) (line : law.Entry Shown) → answer words points inputs plan u j ≡ Some line → IsStepOf line
-  answer_step (jobs.Walks p) line e = move_step (walk points plan (words p)) line e
-  answer_step (jobs.Descends p t) line e = swap_step t (descent points inputs plan t) line e
-  answer_step (jobs.Compares i j) line e = absurd (cc)
-  answer_step jobs.Packs line e = absurd (cc)
+use Rattle.book_solve.proofs.Lines.{passed_at, of_passed, entry_at}
 
 -- where an improver finds nothing better it has no answer
 module _ (limits : Limits) (ground : HeldPlan) (plan : Plan) (u : ℕ) where
@@ -159,56 +133,6 @@ module _ (limits : Limits) (frame : HeldFrame) (ground : HeldPlan) (journal : Li
   no_step u place saved none f =
       let s = answer_step (order_of limits).words points inputs (state_at ground journal place).plan u (job_at limits ground u) f.line f.answered in
       of_passed is_plan_entry (λ line. turn_of line ≢ u) (lines_of journal) place f.line none f.there s.1 s.0
-
-  -- ---- each row of the journal was earned, and each comparing turn left one
-  pub row_earned : (n turn : ℕ) (found : row.Row) → slice_get journal n ≡ Some (entry.Row turn found) → IsEarned Pruned points inputs frame limits.budget found
-  row_earned n turn found e = by_owner (T.owned n (entry.Row turn found) e)
-    where
-      by_out : (out : Outcome) → Fits limits ground frame turn journal out → StandsAt out n → IsEarned Pruned points inputs frame limits.budget found
-      by_out (outcome.Published place saved) f s =
-          let i = same f.line (law.Row turn (pair_row found)) (sym f.there ∙ (ap (slice_get (lines_of journal)) s ∙ line_at journal n (entry.Row turn found) e)) in
-          let t = answer_step (order_of limits).words points inputs (state_at ground journal place).plan turn (job_at limits ground turn) f.line f.answered in
-          absurd (let z : false ≡ true = sym (ap is_plan_entry i) ∙ t.1 in cc)
-      by_out (outcome.Kept place) f s = subst (IsEarned Pruned points inputs frame limits.budget) (one_row f.found found (sym f.there ∙ (ap (slice_get journal) s ∙ e))) f.earned
-        where
-          one_row : (x y : row.Row) → Some (entry.Row turn x) ≡ Some (entry.Row turn y) → x ≡ y
-          one_row x y e = cc
-      by_out (outcome.Packed place limit) f s = absurd (let z : Some (entry.Pack turn f.perm) ≡ Some (entry.Row turn found) = sym f.there ∙ (ap (slice_get journal) s ∙ e) in cc)
-      by_out (outcome.NotBetter base) f s = absurd s
-      by_out (outcome.Stuck base round) f s = absurd s
-      by_out (outcome.Stale base is) f s = absurd s
-      by_out (outcome.Taken i j) f s = absurd s
-      by_out (outcome.NoRise held given) f s = absurd s
-      by_out outcome.NoMemory f s = absurd s
-
-      by_owner : (out : Outcome) × (slice_get outcomes turn ≡ Some out) × StandsAt out n → IsEarned Pruned points inputs frame limits.budget found
-      by_owner (out, t, s) = by_out out (T.fit turn out t) s
-
-  pub row_made : (u i j : ℕ) (out : Outcome) → slice_get outcomes u ≡ Some out → out ≢ outcome.NoMemory → job_at limits ground u ≡ jobs.Compares i j → row_of (rows_in journal) i j ≢ None
-  row_made u i j out e memory compares = by_out out memory (T.fit u out e)
-    where
-      whole : (state_at ground journal (length journal)).rows ≡ rows_in journal
-      whole = ap (λ (lines : List (law.Entry Shown)). (state_after points inputs (opening_state ground.plan) lines).rows) (take_all (length journal) (lines_of journal) (let l = length-lines journal in omega (arith, l))) ∙ rows_are points inputs (opening_state ground.plan) journal
-
-      one_pair : (a b : ℕ) → jobs.Compares i j ≡ jobs.Compares a b → (a ≡ i) × (b ≡ j)
-      one_pair a b e = ((cc), (cc))
-
-      at_pair : (a b : ℕ) → job_at limits ground u ≡ jobs.Compares a b → row_of (rows_in journal) a b ≢ None → row_of (rows_in journal) i j ≢ None
-      at_pair a b k n = let p = one_pair a b (sym compares ∙ k) in subst (λ (b : ℕ). row_of (rows_in journal) i b ≢ None) p.1 (subst (λ (a : ℕ). row_of (rows_in journal) a b ≢ None) p.0 n)
-
-      no_packs : job_at limits ground u ≡ jobs.Packs → ⊥
-      no_packs k = let z : jobs.Compares i j ≡ jobs.Packs = sym compares ∙ k in cc
-
-      by_out : (out : Outcome) → out ≢ outcome.NoMemory → Fits limits ground frame u journal out → row_of (rows_in journal) i j ≢ None
-      by_out (outcome.Published place saved) m f = absurd (let z : None ≡ Some f.line = sym (ap (answer {E = Shown} (order_of limits).words points inputs (state_at ground journal place).plan u) compares) ∙ f.answered in cc)
-      by_out (outcome.NotBetter base) m f = absurd (subst (FindsNone limits ground (plan_at ground journal base)) compares f.1)
-      by_out (outcome.Stuck base round) m f = absurd (subst (Sticks ground (plan_at ground journal base) round) compares f.1)
-      by_out (outcome.Stale base is) m f = absurd (let z : None ≡ Some f.line = sym (ap (answer {E = Shown} (order_of limits).words points inputs (plan_at ground journal base) u) compares) ∙ f.answered in cc)
-      by_out (outcome.Kept place) m f = at_pair f.found.i f.found.j f.of_job (row_there journal place u f.found f.there)
-      by_out (outcome.Taken a b) m f = at_pair a b f.0 (λ n. f.1 (ap (λ rows. row_of rows a b) whole ∙ n))
-      by_out (outcome.Packed place limit) m f = absurd (no_packs f.of_job)
-      by_out (outcome.NoRise held given) m f = absurd (no_packs f.of_job)
-      by_out outcome.NoMemory m f = absurd (m refl)
 
   -- ---- the lines of the run
   pub are_lines : (made : List (List Edge)) (end : Plan) → length outcomes ≡ turns_of (order_of limits) inputs → Settles points (now_at ground journal).plan made end → AreLines (order_of limits) points inputs ground.plan (plan_lines journal) made end

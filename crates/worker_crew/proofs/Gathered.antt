@@ -1,27 +1,22 @@
 -- What the turns of several workers leave together.
-use Rattle.std.proofs.Common.{◌≡◌, ◌∙◌, ℕ, zero, suc, ◌+◌, ◌-◌, ◌*◌, ◌<◌, ◌≤◌, Bool, true, false, cond, eqb, eq-eqb, eqb-true, Option, Some, None, List, [], ◌∷◌, length, take, All, refl, sym, ap, ap₂, subst, arith}
+use Rattle.std.proofs.Common.{◌≡◌, ◌∙◌, ℕ, zero, suc, ◌+◌, ◌-◌, ◌*◌, ◌<◌, ◌≤◌, Bool, true, false, cond, eqb, eq-eqb, eqb-true, Some, List, [], ◌∷◌, length, take, All, refl, sym, ap, ap₂, subst, arith}
 use Rattle.std.proofs.Math.ListN.{replicate}
-use Rattle.std.specs.Prelude.{slice_get, sum_by, count_by, option_map}
+use Rattle.std.specs.Prelude.{slice_get, sum_by, count_by}
 use Rattle.std.proofs.lemmas.List.{map-append, take_all, length-replicate}
 use Rattle.std.proofs.lemmas.List.Elements.{All-head, All-tail, All-append}
 use Rattle.std.proofs.lemmas.List.Sums.{sum_by-cons, sum_by-append}
 use Rattle.std.proofs.lemmas.Bool.Decides.{nat_tests}
-use Rattle.std.proofs.lemmas.Option.{slice_get-map, slice_get_within}
+use Rattle.std.proofs.lemmas.Option.{slice_get_within}
 use mathlib.Core.List.{IsPrefix}
-use Rattle.geo_orient.specs.declared.Point.{Point}
-use Rattle.edge_table.specs.declared.edge.Edge.{Edge}
 use Rattle.vcell.specs.Passes.{PassView}
 use Rattle.claims.specs.Draws.{SeatView, times, once_below, EachOnceBelow}
 use Rattle.claims.proofs.Numbers.{times-append}
 use Rattle.flip_cnf.specs.HeldFrames.{HeldFrame}
-use Rattle.plan_law.specs.Plans.{Plan, plan_total}
+use Rattle.plan_law.specs.Plans.{plan_total}
 use Rattle.plan_law.specs.Books as law
 use Rattle.plan_law.specs.Books.{State, is_plan_entry, opening_state, after_entry, state_after, front, IsBook}
 use Rattle.plan_law.specs.BookLaws.{Improves}
-use Rattle.plan_law.specs.Improvers as improver
-use Rattle.plan_law.specs.Improvers.{walk, descent}
-use Rattle.plan_law.specs.Jobs as jobs
-use Rattle.plan_law.specs.Solving.{turns_of, turn_of, move_of, swap_of, answer}
+use Rattle.plan_law.specs.Solving.{turns_of, turn_of}
 use Rattle.plan_law.proofs.Proved.{journals_improve}
 use Rattle.plan_core.specs.HeldPlans.{HeldPlan}
 use Rattle.book_core.specs.declared.entry.Entry.{Entry}
@@ -35,7 +30,8 @@ use Rattle.worker_pool.specs.Jobs.{order_of}
 use Rattle.worker_pool.specs.Outcomes.{state_at, job_at, Fits, made_by, saved_by, steps_by}
 use Rattle.worker_pool.specs.Turns.{now_at}
 use Rattle.worker_pool.specs.Runs.{StandsAt}
-use Rattle.worker_pool.proofs.Ordered.{same, fits_later, answer_turn}
+use Rattle.worker_pool.proofs.Compared.{line_at}
+use Rattle.worker_pool.proofs.Ordered.{same, fits_later, answer_step}
 use Rattle.worker_pool.proofs.Replicas.{length-lines}
 use Rattle.worker_pool.proofs.Turned.{front_grows}
 use Rattle.worker_crew.specs.declared.taken.Taken.{Taken}
@@ -173,32 +169,12 @@ stands_at (outcome.Taken i j) n t = absurd (cc)
 stands_at (outcome.NoRise held given) n t = absurd (cc)
 stands_at outcome.NoMemory n t = absurd (cc)
 
--- the answer of a turn is a move or a swap
-module _ (words : ℕ → List ℕ) (points : List Point) (inputs : List (List Edge)) (plan : Plan) (u : ℕ) where
-  move_step : (r : Option (List Edge)) (line : law.Entry Shown) → move_of u r ≡ Some line → is_plan_entry line ≡ true
-  move_step (Some edges) line e = let i : law.Move u edges ≡ line = cc in sym (ap is_plan_entry i)
-  move_step None line e = absurd (cc)
-
-  swap_step : (input : ℕ) (d : improver.Descent) (line : law.Entry Shown) → swap_of u input d ≡ Some line → is_plan_entry line ≡ true
-  swap_step input (improver.Better rounds) line e = let i : law.Swap u input rounds ≡ line = cc in sym (ap is_plan_entry i)
-  swap_step input (improver.NotBetter held given) line e = absurd (cc)
-  swap_step input (improver.Stuck round) line e = absurd (cc)
-
-  answer_step : (j : jobs.Job) (line : law.Entry Shown) → answer words points inputs plan u j ≡ Some line → is_plan_entry line ≡ true
-  answer_step (jobs.Walks p) line e = move_step (walk points plan (words p)) line e
-  answer_step (jobs.Descends p t) line e = swap_step t (descent points inputs plan t) line e
-  answer_step (jobs.Compares i j) line e = absurd (cc)
-  answer_step jobs.Packs line e = absurd (cc)
-
 -- the line of an entry that a turn made, and whether it is a move or a swap
 record IsLineOf (journal : List Entry) (u n : ℕ) (step : Bool) : Type 0 where
   line : law.Entry Shown
   there : slice_get (lines_of journal) n ≡ Some line
   by_turn : turn_of line ≡ u
   step_is : is_plan_entry line ≡ step
-
-line_there : (journal : List Entry) (n : ℕ) (x : Entry) → slice_get journal n ≡ Some x → slice_get (lines_of journal) n ≡ Some (line_of x)
-line_there journal n x e = slice_get-map line_of journal n ∙ ap (option_map line_of) e
 
 -- ---- outcomes that fit a legal journal, of which each made as many entries as it says
 module _ (limits : Limits) (frame : HeldFrame) (b : HeldBook) (legal : IsBook (IsJustifiedRow b.problem.points b.problem.inputs) b.problem.points b.problem.inputs (book_of b)) where
@@ -215,15 +191,15 @@ module _ (limits : Limits) (frame : HeldFrame) (b : HeldBook) (legal : IsBook (I
   step_line u place saved f = record {
     line = f.line;
     there = f.there;
-    by_turn = answer_turn (order_of limits).words ground.problem.points ground.problem.inputs (state_at ground b.journal place).plan u (job_at limits ground u) f.line f.answered;
-    step_is = answer_step (order_of limits).words ground.problem.points ground.problem.inputs (state_at ground b.journal place).plan u (job_at limits ground u) f.line f.answered;
+    by_turn = (answer_step (order_of limits).words ground.problem.points ground.problem.inputs (state_at ground b.journal place).plan u (job_at limits ground u) f.line f.answered).0;
+    step_is = (answer_step (order_of limits).words ground.problem.points ground.problem.inputs (state_at ground b.journal place).plan u (job_at limits ground u) f.line f.answered).1;
   }
 
   row_line : (u place : ℕ) → OwnFits u (outcome.Kept place) → IsLineOf b.journal u place false
-  row_line u place f = record { line = law.Row u (pair_row f.found); there = line_there b.journal place (entry.Row u f.found) f.there; by_turn = refl; step_is = refl }
+  row_line u place f = record { line = law.Row u (pair_row f.found); there = line_at b.journal place (entry.Row u f.found) f.there; by_turn = refl; step_is = refl }
 
   pack_line : (u place limit : ℕ) → OwnFits u (outcome.Packed place limit) → IsLineOf b.journal u place false
-  pack_line u place limit f = record { line = law.Pack u f.perm; there = line_there b.journal place (entry.Pack u f.perm) f.there; by_turn = refl; step_is = refl }
+  pack_line u place limit f = record { line = law.Pack u f.perm; there = line_at b.journal place (entry.Pack u f.perm) f.there; by_turn = refl; step_is = refl }
 
   own_line : (u n : ℕ) (out : Outcome) → OwnFits u out → StandsAt out n → (step : Bool) × IsLineOf b.journal u n step
   own_line u n (outcome.Published place saved) f s = (true, subst (λ (k : ℕ). IsLineOf b.journal u k true) s (step_line u place saved f))
@@ -369,7 +345,7 @@ module _ (limits : Limits) (frame : HeldFrame) (b : HeldBook) (legal : IsBook (I
         by_pass (u, out, d, t) = by_line (own_line u n out (fit u out d) (stands_at out n t))
           where
             by_line : (step : Bool) × IsLineOf b.journal u n step → (out : Outcome) × (slice_get outcomes (turn_of (line_of x)) ≡ Some out) × StandsAt out n
-            by_line (step, L) = (out, ap (slice_get outcomes) (ap turn_of (same (line_of x) L.line (sym (line_there b.journal n x e) ∙ L.there)) ∙ L.by_turn) ∙ d, stands_at out n t)
+            by_line (step, L) = (out, ap (slice_get outcomes) (ap turn_of (same (line_of x) L.line (sym (line_at b.journal n x e) ∙ L.there)) ∙ L.by_turn) ∙ d, stands_at out n t)
 
     total_falls : plan_total (now_at ground b.journal).plan + sum_by saved_by outcomes ≡ plan_total ground.plan
     total_falls =
@@ -378,13 +354,13 @@ module _ (limits : Limits) (frame : HeldFrame) (b : HeldBook) (legal : IsBook (I
         let e = ap (λ (lines : List (law.Entry Shown)). plan_total (state_after b.problem.points b.problem.inputs (opening_state b.opening) lines).plan) (take_all entries (lines_of b.journal) (let l = length-lines b.journal in omega (arith, l))) in
         omega (arith, w, f, e)
       where
-        line_at : (lines : List (law.Entry Shown)) (n : ℕ) → n < length lines → (line : law.Entry Shown) × (slice_get lines n ≡ Some line)
-        line_at [] n l = absurd (omega (arith, l))
-        line_at (x ∷ lines) zero l = (x, refl)
-        line_at (x ∷ lines) (suc n) l = line_at lines n (omega (arith, l))
+        there_is : (lines : List (law.Entry Shown)) (n : ℕ) → n < length lines → (line : law.Entry Shown) × (slice_get lines n ≡ Some line)
+        there_is [] n l = absurd (omega (arith, l))
+        there_is (x ∷ lines) zero l = (x, refl)
+        there_is (x ∷ lines) (suc n) l = there_is lines n (omega (arith, l))
 
         each : (k : ℕ) → k < entries → total_at (k + 1) + fall_at k ≡ total_at k
-        each k l = by_line (line_at (lines_of b.journal) k (let m = length-lines b.journal in omega (arith, l, m)))
+        each k l = by_line (there_is (lines_of b.journal) k (let m = length-lines b.journal in omega (arith, l, m)))
           where
             by_line : (line : law.Entry Shown) × (slice_get (lines_of b.journal) k ≡ Some line) → total_at (k + 1) + fall_at k ≡ total_at k
             by_line (line, e) = let i = (improves_at k line e).total_kept in omega (arith, i)

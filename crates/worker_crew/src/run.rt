@@ -6,6 +6,7 @@ ghost use Rattle.plan_law.specs.Solving.{turns_of};
 ghost use Rattle.book_core.specs.HeldBooks.{ground_of};
 ghost use Rattle.worker_pool.specs.declared.outcome.Outcome.TheVariants as outcome;
 ghost use Rattle.worker_pool.specs.Jobs.{AreLimits, order_of};
+ghost use Rattle.worker_pool.specs.Runs.{HaveRows};
 ghost use Rattle.worker_crew.specs.Workers.{filled, all_taken};
 ghost use Rattle.worker_crew.specs.Crews.{AreTurnsOfWorkers};
 
@@ -82,6 +83,7 @@ pub fn run_turns<R: Threads + Wait + Sync, G: Gate + Sync>(
     ensures ground { IfOk result (λ r. ground_of r.0 ≡ ground_of book) }
     ensures count { IfOk result (λ r. length r.1 ≡ turns_of (order_of limits.now) book.problem.inputs) }
     ensures turns { IfOk result (λ r. AreTurnsOfWorkers workers limits.now frame.now (ground_of book) r.0.journal r.1) }
+    ensures rows { IfOk result (λ r. HaveRows limits.now (ground_of book) r.0.journal r.1) }
     ensures err { IfErr result (λ none. none.book ≡ book) }
 {
     let turns = turns_on(&book, limits);

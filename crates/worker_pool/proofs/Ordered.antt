@@ -1,5 +1,5 @@
 -- Turns one after the other: what one turn more makes of the outcomes so far.
-use Rattle.std.proofs.Common.{◌≡◌, ◌≢◌, ◌∙◌, ◌⊎◌, inl, inr, ℕ, zero, suc, ◌+◌, ◌<◌, ◌≤◌, Option, Some, None, List, [], ◌∷◌, ◌++◌, length, take, refl, sym, ap, subst, arith}
+use Rattle.std.proofs.Common.{◌≡◌, ◌≢◌, ◌∙◌, ◌⊎◌, inl, inr, ℕ, zero, suc, ◌+◌, ◌<◌, ◌≤◌, true, Option, Some, None, List, [], ◌∷◌, ◌++◌, length, take, refl, sym, ap, subst, arith}
 use Rattle.std.specs.Prelude.{slice_get, sum_by, eqb, ◌&&◌, option_map}
 use Rattle.std.specs.Option.{option_or}
 use Rattle.std.proofs.lemmas.Bool.{cases_lt}
@@ -13,8 +13,9 @@ use Rattle.edge_table.specs.declared.edge.Edge.{Edge}
 use Rattle.flip_cnf.specs.HeldFrames.{HeldFrame}
 use Rattle.plan_law.specs.Plans.{Plan, plan_total}
 use Rattle.plan_law.specs.Books as law
-use Rattle.plan_law.specs.Books.{PairRow, State, row_of, opening_state, after_entry, state_after, front}
+use Rattle.plan_law.specs.Books.{PairRow, State, is_plan_entry, row_of, opening_state, after_entry, state_after, front}
 use Rattle.plan_law.specs.Improvers as improver
+use Rattle.plan_law.specs.Improvers.{walk, descent}
 use Rattle.plan_law.specs.Jobs as jobs
 use Rattle.plan_law.specs.Solving.{turn_of, swap_of, move_of, answer}
 use Rattle.plan_core.specs.HeldPlans.{HeldPlan}
@@ -60,29 +61,33 @@ module _ {X : Type 0} where
   sum_more : (f : X → ℕ) (xs : List X) (y : X) → sum_by f (xs ++ y ∷ []) ≡ sum_by f xs + f y
   sum_more f xs y = let a = sum_by-append f xs (y ∷ []) in let b = sum_by-cons f y [] in let c : sum_by f [] ≡ 0 = refl in omega (arith, a, b, c)
 
-  below_grows : (f : X → ℕ) (xs : List X) (u v : ℕ) (x : X) → slice_get xs u ≡ Some x → u < v → sum_by f (take u xs) + f x ≤ sum_by f (take v xs)
+  pub below_grows : (f : X → ℕ) (xs : List X) (u v : ℕ) (x : X) → slice_get xs u ≡ Some x → u < v → sum_by f (take u xs) + f x ≤ sum_by f (take v xs)
   below_grows f [] u v x e l = absurd (cc)
   below_grows f (y ∷ xs) u zero x e l = absurd (omega (arith, l))
   below_grows f (y ∷ xs) zero (suc v) x e l = let a = sum_by-cons f y (take v xs) in let b = ap f (same y x e) in let c : sum_by f [] ≡ 0 = refl in omega (arith, a, b, c)
   below_grows f (y ∷ xs) (suc u) (suc v) x e l =
       let h = below_grows f xs u v x e (omega (arith, l)) in let a = sum_by-cons f y (take u xs) in let b = sum_by-cons f y (take v xs) in omega (arith, h, a, b)
 
--- ---- the turn of an answer
-module _ (words : ℕ → List ℕ) (points : List Point) (inputs : List (List Edge)) where
-  move_turn : (u : ℕ) (r : Option (List Edge)) (line : law.Entry Shown) → move_of u r ≡ Some line → turn_of line ≡ u
-  move_turn u (Some edges) line e = sym (ap turn_of (same (law.Move u edges) line e))
-  move_turn u None line e = absurd (cc)
+-- ---- the answer of a turn
+module _ (words : ℕ → List ℕ) (points : List Point) (inputs : List (List Edge)) (plan : Plan) (u : ℕ) where
+  -- it is a move or a swap of this turn
+  abbrev IsStepOf : law.Entry Shown → Type 0
+  IsStepOf line = (turn_of line ≡ u) × (is_plan_entry line ≡ true)
 
-  swap_turn : (u input : ℕ) (d : improver.Descent) (line : law.Entry Shown) → swap_of u input d ≡ Some line → turn_of line ≡ u
-  swap_turn u input (improver.Better rounds) line e = sym (ap turn_of (same (law.Swap u input rounds) line e))
-  swap_turn u input (improver.NotBetter held given) line e = absurd (cc)
-  swap_turn u input (improver.Stuck round) line e = absurd (cc)
+  move_step : (r : Option (List Edge)) (line : law.Entry Shown) → move_of u r ≡ Some line → IsStepOf line
+  move_step (Some edges) line e = subst IsStepOf (same (law.Move u edges) line e) (refl, refl)
+  move_step None line e = absurd (cc)
 
-  pub answer_turn : (plan : Plan) (u : ℕ) (j : jobs.Job) (line : law.Entry Shown) → answer words points inputs plan u j ≡ Some line → turn_of line ≡ u
-  answer_turn plan u (jobs.Walks p) line e = move_turn u _ line e
-  answer_turn plan u (jobs.Descends p t) line e = swap_turn u t _ line e
-  answer_turn plan u (jobs.Compares i j) line e = absurd (cc)
-  answer_turn plan u jobs.Packs line e = absurd (cc)
+  swap_step : (input : ℕ) (d : improver.Descent) (line : law.Entry Shown) → swap_of u input d ≡ Some line → IsStepOf line
+  swap_step input (improver.Better rounds) line e = subst IsStepOf (same (law.Swap u input rounds) line e) (refl, refl)
+  swap_step input (improver.NotBetter held given) line e = absurd (cc)
+  swap_step input (improver.Stuck round) line e = absurd (cc)
+
+  pub answer_step : (j : jobs.Job) (line : law.Entry Shown) → answer words points inputs plan u j ≡ Some line → IsStepOf line
+  answer_step (jobs.Walks p) line e = move_step (walk points plan (words p)) line e
+  answer_step (jobs.Descends p t) line e = swap_step t (descent points inputs plan t) line e
+  answer_step (jobs.Compares i j) line e = absurd (cc)
+  answer_step jobs.Packs line e = absurd (cc)
 
 -- ---- a row that is found stays found
 module _ (points : List Point) (inputs : List (List Edge)) where
@@ -151,7 +156,7 @@ module _ (ground : HeldPlan) (seen journal : List Entry) (p : IsPrefix seen jour
   order_later outcome.NoMemory h = tt
 
 -- where an entry stands
-stands_is : (ground : HeldPlan) (journal : List Entry) (m n : ℕ) (out : Outcome) → IsInOrder ground journal m out → StandsAt out n → (n ≡ m) × (made_by out ≡ 1)
+pub stands_is : (ground : HeldPlan) (journal : List Entry) (m n : ℕ) (out : Outcome) → IsInOrder ground journal m out → StandsAt out n → (n ≡ m) × (made_by out ≡ 1)
 stands_is ground journal m n (outcome.Published place saved) h s = (sym s ∙ h, refl)
 stands_is ground journal m n (outcome.Kept place) h s = (sym s ∙ h, refl)
 stands_is ground journal m n (outcome.Packed place limit) h s = (sym s ∙ h.0, refl)
@@ -224,7 +229,7 @@ module _ (limits : Limits) (frame : HeldFrame) (ground : HeldPlan) (outcomes : L
       line = same f.line (line_of x) (sym f.there ∙ (ap (slice_get (lines_of K)) here ∙ (slice_get-map line_of K n ∙ ap (option_map line_of) there)))
 
       turn : turn_of (line_of x) ≡ u
-      turn = ap turn_of (sym line) ∙ answer_turn (order_of limits).words ground.problem.points ground.problem.inputs (state_at ground K place).plan u (job_at limits ground u) f.line f.answered
+      turn = ap turn_of (sym line) ∙ (answer_step (order_of limits).words ground.problem.points ground.problem.inputs (state_at ground K place).plan u (job_at limits ground u) f.line f.answered).0
   own_new n x there from to (outcome.Kept place) e f h = own_last n x (outcome.Kept place) e (ap (λ (y : Entry). turn_of (line_of y)) (same x (entry.Row u f.found) (sym there ∙ (ap (slice_get K) (sym here) ∙ f.there)))) here
     where
       here : place ≡ n

@@ -16,13 +16,13 @@ row_from m i = map (λ j. (i, j)) (range_with_len (i + 1) (m - (i + 1)))
 abbrev pub pairs_from : ℕ → ℕ → ℕ → List (ℕ × ℕ)
 pairs_from m i n = flat_map (row_from m) (range_with_len i n)
 
-abbrev with_first : ℕ → ℕ → ℕ × ℕ
+abbrev pub with_first : ℕ → ℕ → ℕ × ℕ
 with_first i j = (i, j)
 
-length-row : (m i : ℕ) → length (row_from m i) ≡ m - (i + 1)
+pub length-row : (m i : ℕ) → length (row_from m i) ≡ m - (i + 1)
 length-row m i = length-map (range_with_len (i + 1) (m - (i + 1))) (with_first i) ∙ length-range_with_len (i + 1) (m - (i + 1))
 
-row_at : (c a n k : ℕ) → k < n → slice_index_or (map (λ j. (c, j)) (range_with_len a n)) k (0, 0) ≡ with_first c (a + k)
+pub row_at : (c a n k : ℕ) → k < n → slice_index_or (map (λ j. (c, j)) (range_with_len a n)) k (0, 0) ≡ with_first c (a + k)
 row_at c a zero k lt = absurd (omega (arith, lt))
 row_at c a (suc n) zero lt = let e : a ≡ a + 0 = omega arith in ap (with_first c) e
 row_at c a (suc n) (suc k) lt = let e : (a + 1) + k ≡ a + suc k = omega arith in row_at c (a + 1) n k (omega (arith, lt)) ∙ ap (with_first c) e

@@ -34,7 +34,7 @@ use Rattle.worker_pool.specs.declared.outcome.Outcome.{Outcome}
 use Rattle.worker_pool.specs.declared.outcome.Outcome.TheVariants as outcome
 use Rattle.worker_pool.specs.Outcomes.{state_at, plan_at, IsBestAt, job_at, answer_on, FindsNone, Sticks, IsOwnStep, IsLateStep, IsOwnRow, IsOwnPack, IsNoRise, Fits, made_by, steps_by}
 use Rattle.vcell.specs.Passes.{LockView, PassView, IsPassOf}
-use Rattle.worker_pool.specs.Turns.{IsReplicaAt, IsAnswered, IsPublished, IsTurn, taken, kind_of, outcome_for, now_at}
+use Rattle.worker_pool.specs.Turns.{IsReplicaAt, IsLegalBook, IsAnswered, IsPublished, IsTurn, taken, kind_of, outcome_for, now_at}
 use Rattle.worker_pool.specs.Works.{ground_for, table_at, IsAnswerTo, IsWork}
 use Rattle.worker_pool.specs.declared.work.Work.TheVariants.{Offers, Ends}
 use Rattle.worker_pool.proofs.Best.{best_of}
@@ -43,7 +43,7 @@ use Rattle.worker_pool.proofs.Replicas.{length-lines, prefix_shorter, first_line
 
 -- ---- plans by the moves and swaps of a journal
 module _ (points : List Point) (inputs : List (List Edge)) where
-  plan_by_steps : (s : State Shown) (lines : List (law.Entry Shown)) → (state_after points inputs s lines).plan ≡ plan_after_all points inputs s.plan (filter is_plan_entry lines)
+  pub plan_by_steps : (s : State Shown) (lines : List (law.Entry Shown)) → (state_after points inputs s lines).plan ≡ plan_after_all points inputs s.plan (filter is_plan_entry lines)
   plan_by_steps s [] = refl
   plan_by_steps s (Move turn edges ∷ lines) = plan_by_steps (after_entry points inputs s (Move turn edges)) lines
   plan_by_steps s (Swap turn input rounds ∷ lines) = plan_by_steps (after_entry points inputs s (Swap turn input rounds)) lines
@@ -235,15 +235,23 @@ module _ (limits : Limits) (frame : HeldFrame) (u : ℕ) (ground : HeldPlan) (se
   newest : r.state ≡ Newest
   newest = R.state ∙ ap (replica_after {E = Shown} ground.problem.points ground.problem.inputs ground.plan) (take_all r.state.seen (lines_of seen) (let l = length-lines seen in omega (arith, l, all)))
 
+  pub base_is : r.state.front ≡ front (lines_of seen)
+  base_is = ap (λ (s : worlds.Replica). s.front) newest
+
+  -- what was worked out on the replica, on a book with this ground
+  pub answer_found : (b : HeldBook) → ground_of b ≡ ground → (x : Entry) → IsAnswerTo limits frame u r.problem r.state.plan r.state.table r.state.front x
+      → IsAnswerTo limits frame u b.problem (now_at (ground_of b) seen).plan (table_at (now_at (ground_of b) seen)) (front (lines_of seen)) x
+  answer_found b g x h =
+      let h1 = subst (λ p. IsAnswerTo limits frame u p r.state.plan r.state.table r.state.front x) R.problem h in
+      let h2 = subst (λ (s : worlds.Replica). IsAnswerTo limits frame u ground.problem s.plan s.table s.front x) newest h1 in
+      subst (λ (g : HeldPlan). IsAnswerTo limits frame u g.problem (now_at g seen).plan (table_at (now_at g seen)) (front (lines_of seen)) x) (sym g) h2
+
   pub fits_offer : (x : Entry) (answer : Result Accepted Refusal) (limit : ℕ) (after : List Entry) → IsPublished ground seen r.state.front x answer limit after → IsAnswerTo limits frame u r.problem r.state.plan r.state.table r.state.front x
       → Fits limits ground frame u after (outcome_for (kind_of x) answer limit) × (taken answer ≡ made_by (outcome_for (kind_of x) answer limit)) × (front (lines_of seen) + steps_by (outcome_for (kind_of x) answer limit) ≤ front (lines_of after))
   fits_offer x answer limit after P h =
-      let h1 = subst (λ p. IsAnswerTo limits frame u p r.state.plan r.state.table r.state.front x) R.problem h in
-      let h2 = subst (λ (s : worlds.Replica). IsAnswerTo limits frame u ground.problem s.plan s.table s.front x) newest h1 in
-      let h3 = subst (λ (g : HeldPlan). IsAnswerTo limits frame u g.problem (now_at g seen).plan (table_at (now_at g seen)) (front (lines_of seen)) x) (sym P.of_ground) h2 in
       let l = subst (λ (g : HeldPlan). limit ≡ bound (now_at g after)) (sym P.of_ground) P.limit_is in
-      let a = subst (λ (n : ℕ). IsAnswered P.found n x answer after) (ap (λ (s : worlds.Replica). s.front) newest) P.answered in
-      let good = fits_answer limits frame u P.found seen P.begins x answer limit after a l h3 in
+      let a = subst (λ (n : ℕ). IsAnswered P.found n x answer after) base_is P.answered in
+      let good = fits_answer limits frame u P.found seen P.begins x answer limit after a l (answer_found P.found P.of_ground x h) in
       (subst (λ (g : HeldPlan). Fits limits g frame u after (outcome_for (kind_of x) answer limit)) P.of_ground good.0, good.1, good.2)
 
   finds_on : (plan : Plan) (j : jobs.Job) → FindsNone limits (ground_for ground.problem plan) plan j → FindsNone limits ground plan j
@@ -287,25 +295,27 @@ table_long ground seen r R =
     ap (λ (s : worlds.Replica). length s.table) R.state ∙ (length_table now.plan.weights now.rows ∙ ap (λ (s : worlds.Replica). sum s.plan.weights) (sym R.state))
 
 -- what an offer leaves
-pub published_of : (ground : HeldPlan) (before after : List Entry) (old new : HeldBook) (n : ℕ) (x : Entry) (answer : Result Accepted Refusal) (limit : ℕ) → ground_of old ≡ ground → IsPrefix before old.journal
+pub published_of : (ground : HeldPlan) (before after : List Entry) (old new : HeldBook) (n : ℕ) (x : Entry) (answer : Result Accepted Refusal) (limit : ℕ) → ground_of old ≡ ground → IsLegalBook old → IsPrefix before old.journal
     → IfOk answer (λ a. Accepts old n x a.place a.saved) → IfErr answer (Refuses old n x) → OnOk answer (new ≡ with_line old x) → OnErr answer (new ≡ old) → limit ≡ bound (now_of new) → after ≡ new.journal → IsPublished ground before n x answer limit after
-published_of ground before after old new n x (Ok a) limit g p ok err grown kept l e = record {
+published_of ground before after old new n x (Ok a) limit g legal p ok err grown kept l e = record {
   found = old;
   of_ground = g;
+  legal = legal;
   begins = p;
   answered = (ok, e ∙ ap (λ (b : HeldBook). b.journal) grown);
   limit_is = l ∙ ap₂ (λ (q : HeldPlan) (j : List Entry). bound (now_at q j)) (ap ground_of grown ∙ g) (sym e);
 }
-published_of ground before after old new n x (Err why) limit g p ok err grown kept l e = record {
+published_of ground before after old new n x (Err why) limit g legal p ok err grown kept l e = record {
   found = old;
   of_ground = g;
+  legal = legal;
   begins = p;
   answered = (err, e ∙ ap (λ (b : HeldBook). b.journal) kept);
   limit_is = l ∙ ap₂ (λ (q : HeldPlan) (j : List Entry). bound (now_at q j)) (ap ground_of kept ∙ g) (sym e);
 }
 
 -- ---- the turn as a whole
-on_true : (b : Bool) (P : Type 0) → b ≡ true → OnTrue b P → P
+pub on_true : (b : Bool) (P : Type 0) → b ≡ true → OnTrue b P → P
 on_true b P e h = subst (λ (b : Bool). OnTrue b P) e h
 
 pub ok_is : {X E : Type 0} (res : Result X E) (P : X → Type 0) (x : X) → res ≡ Ok x → IfOk res P → P x

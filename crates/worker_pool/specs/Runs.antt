@@ -1,18 +1,19 @@
 -- What all turns of a run leave, one after the other on one thread.
-use Rattle.std.specs.Prelude.{◌≡◌, ℕ, ◌+◌, Some, List, length, slice_get, take, sum_by}
+use Rattle.std.specs.Prelude.{◌≡◌, ◌≢◌, ◌⊎◌, ℕ, ◌+◌, ◌<◌, Some, List, length, slice_get, take, sum_by}
 use Rattle.flip_cnf.specs.HeldFrames.{HeldFrame}
 use Rattle.plan_law.specs.Plans.{plan_total}
-use Rattle.plan_law.specs.Books.{bound_of, bound, front}
+use Rattle.plan_law.specs.Books.{PairRow, row_of, bound_of, bound, front}
+use Rattle.plan_law.specs.Jobs.{Compares}
 use Rattle.plan_law.specs.Solving.{turn_of}
 use mathlib.Core.List.{IsPrefix}
 use Rattle.plan_core.specs.HeldPlans.{HeldPlan}
 use Rattle.book_core.specs.declared.entry.Entry.{Entry}
-use Rattle.book_core.specs.Entries.{line_of, lines_of}
+use Rattle.book_core.specs.Entries.{Shown, line_of, lines_of}
 use Rattle.book_core.specs.HeldBooks.{HeldBook, ground_of, now_of}
 use Rattle.worker_pool.specs.declared.limits.Limits.{Limits}
 use Rattle.worker_pool.specs.declared.outcome.Outcome.{Outcome}
 use Rattle.worker_pool.specs.declared.outcome.Outcome.TheVariants.{Published, NotBetter, Stuck, Stale, Kept, Taken, Packed, NoRise, NoMemory}
-use Rattle.worker_pool.specs.Outcomes.{state_at, IsBestAt, Fits, made_by, saved_by}
+use Rattle.worker_pool.specs.Outcomes.{state_at, IsBestAt, job_at, Fits, made_by, saved_by}
 use Rattle.worker_pool.specs.Turns.{now_at}
 
 -- where an outcome that made an entry says that it stands
@@ -29,6 +30,17 @@ pub record AreTurns (limits : Limits) (frame : HeldFrame) (ground : HeldPlan) (j
   pub owned : (n : ℕ) (entry : Entry) → slice_get journal n ≡ Some entry → (outcome : Outcome) × (slice_get outcomes (turn_of (line_of entry)) ≡ Some outcome) × StandsAt outcome n
   pub once : (u v n : ℕ) (one other : Outcome) → slice_get outcomes u ≡ Some one → slice_get outcomes v ≡ Some other → StandsAt one n → StandsAt other n → u ≡ v
   pub saved : plan_total (now_at ground journal).plan + sum_by saved_by outcomes ≡ plan_total ground.plan
+
+-- two inputs have a row after a journal, unless the turn that compares them wanted memory
+pub record IsCompared (limits : Limits) (ground : HeldPlan) (journal : List Entry) (outcomes : List Outcome) (i j : ℕ) : Type 0 where
+  pub turn : ℕ
+  pub compares : job_at limits ground turn ≡ Compares i j
+  pub ends : ((row : PairRow Shown) × (row_of (now_at ground journal).rows i j ≡ Some row)) ⊎ (slice_get outcomes turn ≡ Some NoMemory)
+
+-- each two inputs have their row, unless the turn that compares them wanted memory. No turn finds that the row of its inputs stands already
+pub record HaveRows (limits : Limits) (ground : HeldPlan) (journal : List Entry) (outcomes : List Outcome) : Type 0 where
+  pub each : (i j : ℕ) → i < j → j < length ground.problem.inputs → IsCompared limits ground journal outcomes i j
+  pub none_taken : (u i j : ℕ) → slice_get outcomes u ≢ Some (Taken i j)
 
 -- how many entries the turns below u made
 abbrev pub entries_below : List Outcome → ℕ → ℕ

@@ -4,7 +4,7 @@ ghost use Rattle.flip_cnf.specs.HeldFrames.{IsHeldFrame};
 ghost use Rattle.plan_law.specs.Solving.{turns_of};
 ghost use Rattle.book_core.specs.HeldBooks.{ground_of};
 ghost use Rattle.worker_pool.specs.Jobs.{AreLimits, order_of};
-ghost use Rattle.worker_pool.specs.Runs.{AreTurnsInOrder};
+ghost use Rattle.worker_pool.specs.Runs.{AreTurnsInOrder, HaveRows};
 
 use crate::alone::turn_alone;
 use crate::{Limits, Outcome, Outcomes, turn_count};
@@ -74,6 +74,7 @@ pub fn run_alone(
     ensures ground { IfOk result (λ r. ground_of r.0 ≡ ground_of book) }
     ensures count { IfOk result (λ r. length r.1 ≡ turns_of (order_of limits.now) book.problem.inputs) }
     ensures turns { IfOk result (λ r. AreTurnsInOrder limits.now frame.now (ground_of book) r.0.journal r.1) }
+    ensures rows { IfOk result (λ r. HaveRows limits.now (ground_of book) r.0.journal r.1) }
     ensures err { IfErr result (λ none. none.book ≡ book) }
 {
     let turns = turns_on(&book, limits);

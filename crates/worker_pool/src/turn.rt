@@ -9,7 +9,7 @@ ghost use Rattle.plan_law.specs.Solving.{turns_of};
 ghost use Rattle.book_core.specs.HeldBooks.{IsOffer, Accepts, Refuses, with_line, now_of};
 ghost use Rattle.worker_pool.specs.Jobs.{AreLimits, MayBeInputs, order_of};
 ghost use Rattle.worker_pool.specs.Works.{IsWork};
-ghost use Rattle.worker_pool.specs.Turns.{IsReplicaAt, IsPublished, IsTurn, taken, kind_of, outcome_for, now_at};
+ghost use Rattle.worker_pool.specs.Turns.{IsReplicaAt, IsLegalBook, IsPublished, MayBeRefused, IsTurn, taken, kind_of, outcome_for, now_at};
 
 use crate::work::{Work, work_on};
 use crate::{Limits, Outcome};
@@ -62,12 +62,15 @@ fn publish<R: Wait>(
 // Offers an entry, and answers the bound then.
 pub(crate) fn offer_to(book: &mut Book, base: u64, entry: Entry) -> (Result<Accepted, Refusal>, u64)
     requires { IsOffer book.old.problem entry }
+    ensures legal { IsLegalBook book.old }
     ensures ok { IfOk result.0 (λ a. Accepts book.old base entry a.place a.saved) }
     ensures grown { OnOk result.0 (book.new ≡ with_line book.old entry) }
     ensures err { IfErr result.0 (Refuses book.old base entry) }
     ensures kept { OnErr result.0 (book.new ≡ book.old) }
     ensures limit { result.1 ≡ bound (now_of book.new) }
 {
+    let _ = book.plan().inst().count();
+    let _ = book.bound();
     let answer = book.offer(base, entry);
     let limit = book.bound();
     (answer, limit)
@@ -91,8 +94,9 @@ pub(crate) fn kind_of(entry: &Entry) -> Kind
     }
 }
 
-// The outcome of a turn whose offer was answered.
+// The outcome of a turn whose offer was answered. A book finds nothing else wrong with what a turn offers.
 pub(crate) fn outcome_of(kind: Kind, answer: Result<Accepted, Refusal>, limit: u64) -> Outcome
+    requires { IfErr answer (MayBeRefused kind) }
     ensures { result ≡ outcome_for kind answer limit }
 {
     match answer {
@@ -107,7 +111,9 @@ pub(crate) fn outcome_of(kind: Kind, answer: Result<Accepted, Refusal>, limit: u
         Err(Refusal::Stale { base, front }) => Outcome::Stale { base, front },
         Err(Refusal::Taken(i, j)) => Outcome::Taken(i, j),
         Err(Refusal::NoRise { held, given }) => Outcome::NoRise { held, given },
-        Err(_) => Outcome::NoMemory,
+        Err(Refusal::OutOfMemory) => Outcome::NoMemory,
+        Err(Refusal::BadMove(_) | Refusal::BadSwap(_) | Refusal::NotBetter { .. }) =>
+            unreachable!(),
     }
 }
 

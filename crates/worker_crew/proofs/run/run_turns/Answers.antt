@@ -9,6 +9,7 @@ use Rattle.book_core.specs.HeldBooks.{ground_of}
 use Rattle.worker_pool.specs.declared.outcome.Outcome.{Outcome}
 use Rattle.worker_pool.specs.declared.outcome.Outcome.TheVariants.{NoMemory}
 use Rattle.worker_pool.specs.Jobs.{order_of}
+use Rattle.worker_pool.proofs.Compared.{have_rows}
 use Rattle.worker_crew.specs.Workers.{HaveTaken, all_taken, filled}
 use Rattle.worker_crew.specs.Crews.{AreTurnsOfWorkers}
 use Rattle.worker_crew.proofs.Filled.{length-filled}
@@ -41,3 +42,7 @@ returns-in-Ok-make-2-clause-turns g c = let limits = c.args.limits.now in let fr
     let outcomes = c.put_parts.ensures ∙ ap (λ (o : List Outcome). filled o (all_taken crew.result.2.items)) blank in
     subst (λ (q : HeldPlan). AreTurnsOfWorkers c.args.workers limits frame q book.result.journal c.put_parts.new.outcomes) same
     (subst (λ (o : List Outcome). AreTurnsOfWorkers c.args.workers limits frame (ground_of book.result) book.result.journal o) (sym outcomes) law)
+
+pub returns-in-Ok-make-2-clause-rows : goal.returns-in-Ok-make-2-clause-rows
+returns-in-Ok-make-2-clause-rows g c =
+    have_rows c.args.limits.now c.args.frame.now (ground_of c.args.book) c.close-book.result.journal c.put_parts.new.outcomes (returns-in-Ok-make-2-clause-turns g c).turns (returns-in-Ok-make-2-clause-count g c)

@@ -20,6 +20,6 @@ returns-clause-seen g c =
 pub returns-clause-published : goal.returns-clause-published
 returns-clause-published g c =
     published_of c.args.cell.now.ground c.args.pass.seen c.leave.result.seen c.value.result.now c.offer_to-answer.new.book c.args.base c.args.entry c.offer_to-answer.result.0 c.offer_to-answer.result.1
-    (ap ground_of c.value.ensures.value ∙ c.enter-held.ensures.ground)
+    (ap ground_of c.value.ensures.value ∙ c.enter-held.ensures.ground) c.offer_to-answer.ensures.legal
     (subst (λ (l : List Entry). IsPrefix c.args.pass.seen l) (sym (ap (λ (b : HeldBook). b.journal) c.value.ensures.value ∙ c.enter-held.ensures.found)) c.enter-held.ensures.seen)
     c.offer_to-answer.ensures.ok c.offer_to-answer.ensures.err c.offer_to-answer.ensures.grown c.offer_to-answer.ensures.kept c.offer_to-answer.ensures.limit c.leave.ensures.seen
