@@ -6,7 +6,11 @@ mod crossing_bounds;
 #[cfg(test)]
 mod first_centres;
 #[cfg(test)]
+mod half_edge_lists;
+#[cfg(test)]
 mod meshes;
+#[cfg(test)]
+mod polygons;
 #[cfg(test)]
 mod scores;
 #[cfg(test)]

@@ -1,56 +1,11 @@
 // The square with ample memory: its diagonal flips in one round, and that is where the other input is.
-use edge_table::{Edge, EdgeSeq, Rounds, RoundsList};
-use geo_orient::Point;
+use crate::polygons::{both_diagonals, edge, expect_input, one_round};
+use edge_table::{Edge, Rounds, RoundsList};
 use replay::*;
 use std::alloc::{AllocError, Global};
 use std::process::Abort;
-use std::sync::Arc;
 use std::test::Fail;
-use tri_check::{CheckFault, Instance, PairList, PointList, RawInputs, RawInstance, RawPair, Uid};
-
-fn edge(rt: &impl Abort, a: u32, b: u32) -> Edge {
-    Edge::of(a, b).expect(rt, "two points")
-}
-
-fn corners(alloc: Global) -> Result<PointList, AllocError> {
-    let mut points = PointList::make(alloc);
-    points.push(Point { x: 0, y: 0 })?;
-    points.push(Point { x: 2, y: 0 })?;
-    points.push(Point { x: 2, y: 2 })?;
-    points.push(Point { x: 0, y: 2 })?;
-    Ok(points)
-}
-
-fn diagonal(alloc: Global, pair: RawPair) -> Result<PairList, AllocError> {
-    let mut input = PairList::make(alloc);
-    input.push(pair)?;
-    Ok(input)
-}
-
-fn diagonals(alloc: Global) -> Result<RawInputs, AllocError> {
-    let mut inputs = RawInputs::make(alloc);
-    inputs.push(diagonal(alloc, RawPair { a: 0, b: 2 })?)?;
-    inputs.push(diagonal(alloc, RawPair { a: 1, b: 3 })?)?;
-    Ok(inputs)
-}
-
-fn square(alloc: Global) -> Result<Arc<Instance>, CheckFault> {
-    let raw = RawInstance::unweighted(
-        alloc,
-        Uid::of(alloc, "square")?,
-        corners(alloc)?,
-        diagonals(alloc)?,
-    )?;
-    Instance::check(alloc, raw)
-}
-
-fn one_round(alloc: Global, e: Edge) -> Result<Rounds, AllocError> {
-    let mut round = EdgeSeq::make(alloc);
-    round.push(e)?;
-    let mut rounds = Rounds::make(alloc);
-    rounds.push(round)?;
-    Ok(rounds)
-}
+use tri_check::Instance;
 
 fn lists(alloc: Global, e: Edge) -> Result<RoundsList, AllocError> {
     let mut lists = RoundsList::make(alloc);
@@ -59,21 +14,38 @@ fn lists(alloc: Global, e: Edge) -> Result<RoundsList, AllocError> {
     Ok(lists)
 }
 
+// Whether one round of an edge leads the first input to one that has another edge.
+fn leads_to(
+    rt: &impl Abort,
+    alloc: Global,
+    inst: &Instance,
+    flip: Edge,
+    e: Edge,
+) -> Result<bool, Fail> {
+    expect_input(rt, inst, 0);
+    let rounds = one_round(alloc, flip)?;
+    let end = replay(alloc, inst.input(0), &rounds)?;
+    Ok(end.has(e))
+}
+
+// The total of one round of an edge for the first input and none for the second.
+fn total(alloc: Global, inst: &Instance, flip: Edge) -> Result<u128, Fail> {
+    let lists = lists(alloc, flip)?;
+    let scored = score(alloc, inst, &lists)?;
+    Ok(scored.total)
+}
+
 #[test]
 fn a_round_flips_the_diagonal(rt: HostRuntime) -> Result<(), Fail> {
-    let instance = square(rt.alloc())?;
-    assert_eq!(rt; instance.inputs(), 2);
-    let rounds = one_round(rt.alloc(), edge(&rt, 0, 2))?;
-    let end = replay(rt.alloc(), instance.input(0), &rounds)?;
-    assert!(rt; end.has(edge(&rt, 1, 3)));
+    let inst = both_diagonals(rt.alloc())?;
+    assert!(rt; inst.inputs() == 2);
+    assert!(rt; leads_to(&rt, rt.alloc(), &inst, edge(&rt, 0, 2), edge(&rt, 1, 3))?);
     Ok(())
 }
 
 #[test]
 fn the_inputs_are_one_round_apart(rt: HostRuntime) -> Result<(), Fail> {
-    let instance = square(rt.alloc())?;
-    let lists = lists(rt.alloc(), edge(&rt, 0, 2))?;
-    let scored = score(rt.alloc(), &instance, &lists)?;
-    assert!(rt; scored.total == 1);
+    let inst = both_diagonals(rt.alloc())?;
+    assert!(rt; total(rt.alloc(), &inst, edge(&rt, 0, 2))? == 1);
     Ok(())
 }

@@ -1,78 +1,34 @@
 // A square and a hexagon with ample memory.
-ghost use Rattle.std.specs.Prelude.{IsTrue, IfOk, ◌≡◌, length};
+ghost use Rattle.std.specs.Prelude.{IsTrue, IfOk, OnOk};
 ghost use Rattle.tri_theory.specs.Flips.{Flips};
 
-use edge_table::Edge;
+use crate::polygons::{HEXAGON, SQUARE, edge, expect_input, instance};
+use edge_table::{Edge, Rounds};
 use flip_mesh::Mesh;
-use geo_orient::Point;
 use round_pack::*;
 use std::alloc::{AllocError, Global};
 use std::process::Abort;
 use std::test::Fail;
-use tri_check::{Instance, PairList, PointList, RawInputs, RawInstance, RawPair, Uid};
 
-fn edge(rt: &impl Abort, a: u32, b: u32) -> Edge {
-    Edge::of(a, b).expect(rt, "two points")
-}
-
-fn square(alloc: Global) -> Result<PointList, AllocError> {
-    let mut points = PointList::make(alloc);
-    points.push(Point { x: 0, y: 0 })?;
-    points.push(Point { x: 2, y: 0 })?;
-    points.push(Point { x: 2, y: 2 })?;
-    points.push(Point { x: 0, y: 2 })?;
-    Ok(points)
-}
-
-fn diagonal(alloc: Global) -> Result<PairList, AllocError> {
-    let mut input = PairList::make(alloc);
-    input.push(RawPair { a: 0, b: 2 })?;
-    Ok(input)
-}
-
-fn hexagon(alloc: Global) -> Result<PointList, AllocError> {
-    let mut points = PointList::make(alloc);
-    points.push(Point { x: 5, y: 0 })?;
-    points.push(Point { x: 3, y: 4 })?;
-    points.push(Point { x: -3, y: 4 })?;
-    points.push(Point { x: -5, y: 0 })?;
-    points.push(Point { x: -3, y: -4 })?;
-    points.push(Point { x: 3, y: -4 })?;
-    Ok(points)
-}
-
-fn fan(alloc: Global) -> Result<PairList, AllocError> {
-    let mut input = PairList::make(alloc);
-    input.push(RawPair { a: 1, b: 3 })?;
-    input.push(RawPair { a: 1, b: 4 })?;
-    input.push(RawPair { a: 1, b: 5 })?;
-    Ok(input)
-}
-
-fn raw(alloc: Global, points: PointList, input: PairList) -> Result<RawInstance, AllocError>
-    ensures { IfOk result (λ raw. length raw.weights ≡ length raw.inputs) }
-{
-    let mut inputs = RawInputs::make(alloc);
-    inputs.push(input)?;
-    RawInstance::unweighted(alloc, Uid::of(alloc, "polygon")?, points, inputs)
-}
-
-fn track_of(rt: &impl Abort, alloc: Global, raw: RawInstance) -> Result<Track, Fail>
-    requires { length raw.weights ≡ length raw.inputs }
-{
-    let instance = Instance::check(alloc, raw)?;
-    assert_eq!(rt; instance.inputs(), 1);
-    Ok(Track::at(alloc, instance.input(0))?)
+// The track without flips at the only input of a polygon with these diagonals.
+fn track_of(
+    rt: &impl Abort,
+    alloc: Global,
+    corners: &[(i64, i64)],
+    diagonals: &[(i64, i64)],
+) -> Result<Track, Fail> {
+    let inst = instance(alloc, corners, &[diagonals])?;
+    assert!(rt; inst.inputs() == 1);
+    expect_input(rt, &inst, 0);
+    Ok(Track::at(alloc, inst.input(0))?)
 }
 
 fn square_track(rt: &impl Abort, alloc: Global) -> Result<Track, Fail> {
-    let raw = raw(alloc, square(alloc)?, diagonal(alloc)?)?;
-    track_of(rt, alloc, raw)
+    track_of(rt, alloc, &SQUARE, &[(0, 2)])
 }
 
 fn hexagon_track(rt: &impl Abort, alloc: Global) -> Result<Track, Fail> {
-    let raw = raw(alloc, hexagon(alloc)?, fan(alloc)?)?;
-    track_of(rt, alloc, raw)
+    track_of(rt, alloc, &HEXAGON, &[(1, 3), (1, 4), (1, 5)])
 }
 
 // Whether an edge of the end flips.
@@ -84,6 +40,22 @@ fn flips(alloc: Global, track: &Track, e: Edge) -> Result<bool, AllocError>
     Ok(mesh.quad(e).is_some())
 }
 
+// An edge of the end flips, or the test ends.
+fn expect_flip(rt: &impl Abort, alloc: Global, track: &Track, e: Edge) -> Result<(), AllocError>
+    ensures { OnOk result (Flips track.now.points track.now.end e) }
+{
+    let turns = flips(alloc, track, e)?;
+    assert!(rt; turns);
+    Ok(())
+}
+
+// The image of an edge whose flip is appended.
+fn append(rt: &impl Abort, alloc: Global, track: &mut Track, e: Edge) -> Result<Edge, AllocError> {
+    track.reserve(1)?;
+    expect_flip(rt, alloc, track, e)?;
+    Ok(track.append(e))
+}
+
 // Appends the flip of an edge that is to have this image.
 fn append_to(
     rt: &impl Abort,
@@ -91,30 +63,42 @@ fn append_to(
     track: &mut Track,
     e: Edge,
     image: Edge,
-) -> Result<(), Fail> {
-    track.reserve(1)?;
-    let turns = flips(alloc, track, e)?;
-    if turns {
-        let f = track.append(e);
-        assert!(rt; f == image);
-    } else {
-        assert!(rt; false, "it flips");
-    }
+) -> Result<(), AllocError> {
+    let found = append(rt, alloc, track, e)?;
+    assert!(rt; found == image);
     Ok(())
 }
 
 // What `cancel` answers for an edge that is to flip.
-fn cancelled(rt: &impl Abort, alloc: Global, track: &mut Track, e: Edge) -> Result<bool, Fail> {
-    let turns = flips(alloc, track, e)?;
-    assert!(rt; turns);
+fn cancelled(
+    rt: &impl Abort,
+    alloc: Global,
+    track: &mut Track,
+    e: Edge,
+) -> Result<bool, AllocError> {
+    expect_flip(rt, alloc, track, e)?;
     Ok(track.cancel(e))
 }
 
 // What `rounds_after` answers for an edge that is to flip.
-fn rounds_after(rt: &impl Abort, alloc: Global, track: &Track, e: Edge) -> Result<u64, Fail> {
-    let turns = flips(alloc, track, e)?;
-    assert!(rt; turns);
+fn rounds_after(rt: &impl Abort, alloc: Global, track: &Track, e: Edge) -> Result<u64, AllocError> {
+    expect_flip(rt, alloc, track, e)?;
     Ok(track.rounds_after(e))
+}
+
+fn edges_at_end(track: &Track) -> Result<usize, AllocError> {
+    let end = track.end()?;
+    Ok(end.len())
+}
+
+fn rounds_grouped(track: &Track) -> Result<usize, AllocError> {
+    let rounds = track.grouped()?;
+    Ok(rounds.len())
+}
+
+fn last_images(track: &Track) -> Result<usize, AllocError> {
+    let images = track.last_images()?;
+    Ok(images.len())
 }
 
 // Whether the end has the square's sides and this diagonal, and no more.
@@ -132,47 +116,56 @@ fn turned_square(rt: &impl Abort, alloc: Global) -> Result<Track, Fail> {
     Ok(track)
 }
 
-// The hexagon's track with the fan turned.
-fn turned_hexagon(rt: &impl Abort, alloc: Global) -> Result<Track, Fail> {
-    let mut track = hexagon_track(rt, alloc)?;
-    append_to(rt, alloc, &mut track, edge(rt, 1, 5), edge(rt, 0, 4))?;
-    append_to(rt, alloc, &mut track, edge(rt, 1, 4), edge(rt, 0, 3))?;
-    append_to(rt, alloc, &mut track, edge(rt, 1, 3), edge(rt, 0, 2))?;
-    Ok(track)
+// The fan turned.
+fn turn_fan(rt: &impl Abort, alloc: Global, track: &mut Track) -> Result<(), AllocError> {
+    append_to(rt, alloc, track, edge(rt, 1, 5), edge(rt, 0, 4))?;
+    append_to(rt, alloc, track, edge(rt, 1, 4), edge(rt, 0, 3))?;
+    append_to(rt, alloc, track, edge(rt, 1, 3), edge(rt, 0, 2))
+}
+
+// The numbers of the rounds, of the grouped rounds, and of the edges at the end, with room for a flip.
+fn sizes(track: &mut Track) -> Result<(u64, usize, usize), AllocError> {
+    track.reserve(1)?;
+    let grouped = rounds_grouped(track)?;
+    let edges = edges_at_end(track)?;
+    Ok((track.rounds(), grouped, edges))
 }
 
 #[test]
 fn a_track_begins_without_flips(rt: HostRuntime) -> Result<(), Fail> {
     let mut track = square_track(&rt, rt.alloc())?;
-    track.reserve(1)?;
-    assert_eq!(rt; track.rounds(), 0);
-    assert_eq!(rt; track.grouped()?.len(), 0);
-    assert_eq!(rt; track.end()?.len(), 5);
+    assert!(rt; sizes(&mut track)? == (0, 0, 5));
     Ok(())
+}
+
+// The number of tracks in a copy of a list of one copied track.
+fn copied(alloc: Global, track: &Track) -> Result<usize, AllocError> {
+    let mut list = TrackList::make(alloc);
+    list.push(track.copy()?)?;
+    let copy = list.copy()?;
+    Ok(copy.len())
 }
 
 #[test]
 fn tracks_are_copied(rt: HostRuntime) -> Result<(), Fail> {
     let track = square_track(&rt, rt.alloc())?;
-    assert_eq!(rt; track.last_images()?.len(), 0);
-    let mut list = TrackList::make(rt.alloc());
-    list.push(track.copy()?)?;
-    assert_eq!(rt; list.copy()?.len(), 1);
+    assert!(rt; last_images(&track)? == 0);
+    assert!(rt; copied(rt.alloc(), &track)? == 1);
     Ok(())
 }
 
 #[test]
 fn a_first_flip_would_make_a_round(rt: HostRuntime) -> Result<(), Fail> {
     let track = square_track(&rt, rt.alloc())?;
-    assert_eq!(rt; rounds_after(&rt, rt.alloc(), &track, edge(&rt, 0, 2))?, 1);
+    assert!(rt; rounds_after(&rt, rt.alloc(), &track, edge(&rt, 0, 2))? == 1);
     Ok(())
 }
 
 #[test]
 fn a_flip_is_appended(rt: HostRuntime) -> Result<(), Fail> {
     let track = turned_square(&rt, rt.alloc())?;
-    assert_eq!(rt; track.rounds(), 1);
-    assert_eq!(rt; rounds_after(&rt, rt.alloc(), &track, edge(&rt, 1, 3))?, 0);
+    assert!(rt; track.rounds() == 1);
+    assert!(rt; rounds_after(&rt, rt.alloc(), &track, edge(&rt, 1, 3))? == 0);
     Ok(())
 }
 
@@ -180,18 +173,36 @@ fn a_flip_is_appended(rt: HostRuntime) -> Result<(), Fail> {
 fn a_flip_is_cancelled(rt: HostRuntime) -> Result<(), Fail> {
     let mut track = turned_square(&rt, rt.alloc())?;
     assert!(rt; cancelled(&rt, rt.alloc(), &mut track, edge(&rt, 1, 3))?);
-    assert_eq!(rt; track.rounds(), 0);
+    assert!(rt; track.rounds() == 0);
     assert!(rt; is_square_with(&rt, &track, edge(&rt, 0, 2))?);
     Ok(())
 }
 
+// Whether there are so many rounds, of one edge each.
+fn are_single(rounds: &Rounds, count: usize) -> bool {
+    for i in 0..rounds.len() {
+        if rounds.at(i).len() != 1 {
+            return false;
+        }
+    }
+    rounds.len() == count
+}
+
+// Whether the turned fan has so many rounds, of one flip each.
+fn turns_singly(
+    rt: &impl Abort,
+    alloc: Global,
+    track: &mut Track,
+    count: usize,
+) -> Result<bool, AllocError> {
+    turn_fan(rt, alloc, track)?;
+    let rounds = track.grouped()?;
+    Ok(are_single(&rounds, count))
+}
+
 #[test]
 fn flips_that_share_triangles_follow_each_other(rt: HostRuntime) -> Result<(), Fail> {
-    let track = turned_hexagon(&rt, rt.alloc())?;
-    let rounds = track.grouped()?;
-    assert_eq!(rt; rounds.len(), 3);
-    assert_eq!(rt; rounds.at(0).len(), 1);
-    assert_eq!(rt; rounds.at(1).len(), 1);
-    assert_eq!(rt; rounds.at(2).len(), 1);
+    let mut track = hexagon_track(&rt, rt.alloc())?;
+    assert!(rt; turns_singly(&rt, rt.alloc(), &mut track, 3)?);
     Ok(())
 }
