@@ -4,6 +4,8 @@
 #[cfg(test)]
 mod books;
 #[cfg(test)]
+mod looks;
+#[cfg(test)]
 mod polygons;
 #[cfg(test)]
 mod runs;

@@ -4,7 +4,11 @@
 #[cfg(test)]
 mod improvers;
 #[cfg(test)]
+mod openings;
+#[cfg(test)]
 mod plans;
+#[cfg(test)]
+mod polygons;
 #[cfg(test)]
 mod settling;
 #[cfg(test)]

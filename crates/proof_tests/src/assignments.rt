@@ -27,15 +27,27 @@ fn judged(alloc: Global, w: &Weights) -> Result<(u64, u64), Fail> {
     Ok((best.sum, perm_bound(w, &best.perm)))
 }
 
+// The answer for a table with weight 1 but at these pairs has this sum and this bound.
+fn must_judge(
+    alloc: Global,
+    m: u32,
+    pairs: &[(u32, u32, u32)],
+    wanted: (u64, u64),
+) -> Result<(), Fail> {
+    let w = table(alloc, m, pairs, 1)?;
+    let found = judged(alloc, &w)?;
+    if found == wanted {
+        Ok(())
+    } else {
+        Err(Fail::new(format_args!("{found:?}, where {wanted:?} is wanted")))
+    }
+}
+
 #[test]
 fn finds_the_best_of_small_tables(rt: HostRuntime) -> Result<(), Fail> {
-    let four = table(rt.alloc(), 4, &[(0, 1, 3), (2, 3, 2)], 1)?;
-    assert_eq!(rt; judged(rt.alloc(), &four)?, (10, 5));
-    let three = table(rt.alloc(), 3, &[], 1)?;
-    assert_eq!(rt; judged(rt.alloc(), &three)?, (3, 2));
-    let one = table(rt.alloc(), 1, &[], 1)?;
-    assert_eq!(rt; judged(rt.alloc(), &one)?, (0, 0));
-    Ok(())
+    must_judge(rt.alloc(), 4, &[(0, 1, 3), (2, 3, 2)], (10, 5))?;
+    must_judge(rt.alloc(), 3, &[], (3, 2))?;
+    must_judge(rt.alloc(), 1, &[], (0, 0))
 }
 
 // The sum of the list of numbers below the side that a code spells, if they are a permutation.
@@ -83,35 +95,63 @@ fn random_table(alloc: Global, m: u32, seed: u64, below: u32) -> Result<Weights,
     Ok(w)
 }
 
-#[test]
-fn finds_the_best_of_random_tables(rt: HostRuntime) -> Result<(), Fail> {
-    for (m, codes, below) in [
-        (2, 4, 9),
-        (3, 27, 9),
-        (4, 256, 3),
-        (4, 256, 4000000000),
-        (5, 3125, 5),
-        (5, 3125, 1000),
-        (6, 46656, 4),
-        (6, 46656, 4000000000),
-    ] {
-        for seed in 0..8 {
-            let w = random_table(rt.alloc(), m, seed, below)?;
-            let best = best_assignment(rt.alloc(), &w)?;
-            assert_eq!(rt; best.sum, greatest_sum(&w, codes), "side {m}, seed {seed}");
-        }
+// For each row the side, the number of codes of lists, and what the weights are below.
+const SIDES: [(u32, u32, u32); 8] = [
+    (2, 4, 9),
+    (3, 27, 9),
+    (4, 256, 3),
+    (4, 256, 4000000000),
+    (5, 3125, 5),
+    (5, 3125, 1000),
+    (6, 46656, 4),
+    (6, 46656, 4000000000),
+];
+
+// The best sum of a random table is the greatest of all.
+fn must_find(alloc: Global, m: u32, codes: u32, below: u32, seed: u64) -> Result<(), Fail> {
+    let w = random_table(alloc, m, seed, below)?;
+    let (sum, _) = judged(alloc, &w)?;
+    if sum == greatest_sum(&w, codes) {
+        Ok(())
+    } else {
+        Err(Fail::new(format_args!("{sum} for side {m}, seed {seed}")))
+    }
+}
+
+fn must_find_each(alloc: Global, rows: &[(u32, u32, u32)], seed: u64) -> Result<(), Fail> {
+    for row in rows {
+        must_find(alloc, row.0, row.1, row.2, seed)?;
     }
     Ok(())
 }
 
 #[test]
+fn finds_the_best_of_random_tables(rt: HostRuntime) -> Result<(), Fail> {
+    for seed in 0..8 {
+        must_find_each(rt.alloc(), &SIDES, seed)?;
+    }
+    Ok(())
+}
+
+// The first number of a copy of a list of one number.
+fn first_of_perm(alloc: Global, number: u32) -> Result<u32, Fail> {
+    let mut perm = Perm::make(alloc);
+    perm.push(number)?;
+    let copy = perm.copy()?;
+    Ok(*copy.at(0))
+}
+
+fn first_of_ints(alloc: Global, number: i64) -> Result<i64, Fail> {
+    let mut ints = Ints::make(alloc);
+    ints.push(number)?;
+    let copy = ints.copy()?;
+    Ok(*copy.at(0))
+}
+
+#[test]
 fn lists_hold_what_is_pushed(rt: HostRuntime) -> Result<(), Fail> {
-    let mut perm = Perm::make(rt.alloc());
-    perm.push(7)?;
-    assert_eq!(rt; *perm.copy()?.at(0), 7);
-    let mut ints = Ints::make(rt.alloc());
-    ints.push(-7)?;
-    assert_eq!(rt; *ints.copy()?.at(0), -7);
+    assert_eq!(rt; first_of_perm(rt.alloc(), 7)?, 7);
+    assert_eq!(rt; first_of_ints(rt.alloc(), -7)?, -7);
     Ok(())
 }
 

@@ -1,92 +1,15 @@
 // Formulas of small polygons, a model of one, and polygons that are too large.
-ghost use Rattle.std.specs.Prelude.{◌≡◌, ◌≤◌, length, IsTrue};
+ghost use Rattle.std.specs.Prelude.{◌≡◌, ◌≤◌, IsTrue};
 ghost use Rattle.log_law.specs.Clauses.{IsModel, IsSatisfied, listed};
 
+use crate::polygons::{HEXAGON, PENTAGON, SQUARE, expect_three, parabola, polygon};
 use edge_table::{Edge, Rounds};
 use flip_cnf::*;
-use geo_orient::Point;
 use rup_check::{Clause, Cnf, Truth};
 use std::alloc::{AllocError, Global};
 use std::process::Abort;
-use std::sync::Arc;
 use std::test::Fail;
-use tri_check::{Instance, PairList, PointList, RawInputs, RawInstance, RawPair, Uid};
-
-fn point(x: i64, y: i64) -> Point {
-    Point { x, y }
-}
-
-// The diagonals at one point of a polygon.
-fn fan(alloc: Global, count: u32, at: u32) -> Result<PairList, AllocError> {
-    let mut pairs = PairList::make(alloc);
-    for other in 0..count {
-        if other != at {
-            pairs.push(RawPair {
-                a: i64::from(at),
-                b: i64::from(other),
-            })?;
-        }
-    }
-    Ok(pairs)
-}
-
-// A convex polygon with the diagonals at its points 0 and 1 as its two inputs.
-fn polygon(alloc: Global, corners: &[Point]) -> Result<Option<Arc<Instance>>, AllocError> {
-    let mut points = PointList::make(alloc);
-    for p in corners {
-        points.push(*p)?;
-    }
-    let count = match u32::try_from(corners.len()) {
-        Ok(count) => count,
-        Err(_) => return Ok(None),
-    };
-    let mut inputs = RawInputs::make(alloc);
-    inputs.push(fan(alloc, count, 0)?)?;
-    inputs.push(fan(alloc, count, 1)?)?;
-    let raw = RawInstance::unweighted(alloc, Uid::of(alloc, "polygon")?, points, inputs)?;
-    Ok(Instance::check(alloc, raw).ok())
-}
-
-// Points of a parabola.
-fn parabola(alloc: Global, count: u32) -> Result<Option<Arc<Instance>>, AllocError> {
-    let mut corners = Vec::new(alloc);
-    for i in 0..count {
-        let x = i64::from(i % 100);
-        corners.push(point(x, x * x))?;
-    }
-    polygon(alloc, &corners)
-}
-
-fn square() -> [Point; 4] {
-    [point(0, 0), point(2, 0), point(2, 2), point(0, 2)]
-}
-
-fn pentagon() -> [Point; 5] {
-    [
-        point(0, 0),
-        point(4, 0),
-        point(5, 3),
-        point(2, 5),
-        point(-1, 3),
-    ]
-}
-
-fn hexagon() -> [Point; 6] {
-    [
-        point(5, 0),
-        point(3, 4),
-        point(-3, 4),
-        point(-5, 0),
-        point(-3, -4),
-        point(3, -4),
-    ]
-}
-
-fn expect_two(rt: &impl Abort, inst: &Instance)
-    ensures { length inst.now.inputs ≡ 2 }
-{
-    assert!(rt; inst.inputs() == 2);
-}
+use tri_check::Instance;
 
 // The size of the formula of `k` rounds from input 0 to input 1, and the numbers of its variables and clauses, or why there is none.
 fn counts(
@@ -97,7 +20,7 @@ fn counts(
 ) -> Result<(Option<u64>, Result<(u32, u32), BuildFault>), AllocError>
     requires { k ≤ 400_000 }
 {
-    expect_two(rt, inst);
+    expect_three(rt, inst);
     let frame = Frame::of(alloc, inst)?;
     let size = frame.size(k);
     match frame.build(inst, 0, 1, k) {
@@ -106,47 +29,79 @@ fn counts(
     }
 }
 
+// Both are as wanted.
+fn must_have(
+    rt: &impl Abort,
+    alloc: Global,
+    inst: &Instance,
+    k: u32,
+    wanted: (Option<u64>, Result<(u32, u32), BuildFault>),
+) -> Result<(), Fail> {
+    assert!(rt; k <= 400_000);
+    let found = counts(rt, alloc, inst, k)?;
+    if found == wanted {
+        Ok(())
+    } else {
+        Err(Fail::new(format_args!("{found:?} for {k} rounds, where {wanted:?} is wanted")))
+    }
+}
+
+// For each row the corners, the number of rounds, and the numbers of the variables and clauses.
+const SMALL: [(&[(i64, i64)], u32, u32, u32); 5] = [
+    (&SQUARE, 0, 6, 13),
+    (&SQUARE, 1, 14, 50),
+    (&PENTAGON, 1, 30, 170),
+    (&PENTAGON, 2, 50, 315),
+    (&HEXAGON, 2, 105, 855),
+];
+
+// Each row has so many, and its size is the number of clauses.
+fn must_have_each(
+    rt: &impl Abort,
+    alloc: Global,
+    rows: &[(&[(i64, i64)], u32, u32, u32)],
+) -> Result<(), Fail> {
+    for row in rows {
+        let inst = polygon(alloc, row.0)?;
+        let wanted = (Some(u64::from(row.3)), Ok((row.2, row.3)));
+        must_have(rt, alloc, &inst, row.1, wanted)?;
+    }
+    Ok(())
+}
+
 #[test]
 fn sizes_of_small_polygons(rt: HostRuntime) -> Result<(), Fail> {
-    let alloc = rt.alloc();
-    let inst = polygon(alloc, &square())?.expect(&rt, "a square");
-    assert_eq!(rt; counts(&rt, alloc, &inst, 0)?, (Some(13), Ok((6, 13))));
-    assert_eq!(rt; counts(&rt, alloc, &inst, 1)?, (Some(50), Ok((14, 50))));
-    let inst = polygon(alloc, &pentagon())?.expect(&rt, "a pentagon");
-    assert_eq!(rt; counts(&rt, alloc, &inst, 1)?, (Some(170), Ok((30, 170))));
-    assert_eq!(rt; counts(&rt, alloc, &inst, 2)?, (Some(315), Ok((50, 315))));
-    let inst = polygon(alloc, &hexagon())?.expect(&rt, "a hexagon");
-    assert_eq!(rt; counts(&rt, alloc, &inst, 2)?, (Some(855), Ok((105, 855))));
-    Ok(())
+    must_have_each(&rt, rt.alloc(), &SMALL)
+}
+
+// The formula of so many points of a parabola has this size and isn't built, for this fault.
+fn must_refuse(
+    rt: &impl Abort,
+    alloc: Global,
+    count: u32,
+    k: u32,
+    size: Option<u64>,
+    fault: BuildFault,
+) -> Result<(), Fail> {
+    let inst = parabola(alloc, count)?;
+    must_have(rt, alloc, &inst, k, (size, Err(fault)))
 }
 
 #[test]
 fn a_polygon_of_twenty_is_too_large(rt: HostRuntime) -> Result<(), Fail> {
-    let alloc = rt.alloc();
-    let inst = parabola(alloc, 20)?.expect(&rt, "20 points");
-    let fault = Err(BuildFault::TooLarge(491_245));
-    assert_eq!(rt; counts(&rt, alloc, &inst, 4)?, (Some(491_245), fault));
-    Ok(())
+    let fault = BuildFault::TooLarge(491_245);
+    must_refuse(&rt, rt.alloc(), 20, 4, Some(491_245), fault)
 }
 
 #[test]
 fn a_polygon_of_sixty_four_is_too_large(rt: HostRuntime) -> Result<(), Fail> {
-    let alloc = rt.alloc();
-    let inst = parabola(alloc, 64)?.expect(&rt, "64 points");
-    let fault = Err(BuildFault::TooLarge(95_970_000));
-    assert_eq!(rt; counts(&rt, alloc, &inst, 6)?, (Some(95_970_000), fault));
-    Ok(())
+    let fault = BuildFault::TooLarge(95_970_000);
+    must_refuse(&rt, rt.alloc(), 64, 6, Some(95_970_000), fault)
 }
 
 #[test]
 fn a_polygon_of_sixty_five_has_no_formula(rt: HostRuntime) -> Result<(), Fail> {
-    let alloc = rt.alloc();
-    let inst = parabola(alloc, 65)?.expect(&rt, "65 points");
-    assert_eq!(rt;
-        counts(&rt, alloc, &inst, 6)?,
-        (None, Err(BuildFault::ManyPoints(65)))
-    );
-    Ok(())
+    must_refuse(&rt, rt.alloc(), 65, 6, None, BuildFault::ManyPoints(65))
 }
 
 // What an assignment says of a variable.
@@ -193,7 +148,7 @@ fn decoded(
 ) -> Result<Option<Rounds>, AllocError>
     requires { k ≤ 400_000 }
 {
-    expect_two(rt, inst);
+    expect_three(rt, inst);
     let frame = Frame::of(alloc, inst)?;
     match frame.build(inst, 0, 1, k) {
         Ok(cnf) => {
@@ -227,18 +182,24 @@ fn truth_of(alloc: Global, values: &[bool]) -> Result<Truth, AllocError> {
     Ok(truth)
 }
 
+// What the values tell of one round between the inputs of the square: None where they are no model, and else its only flip.
+fn told(rt: &impl Abort, alloc: Global, values: &[bool]) -> Result<Option<Option<Edge>>, Fail> {
+    let inst = polygon(alloc, &SQUARE)?;
+    let truth = truth_of(alloc, values)?;
+    match decoded(rt, alloc, &inst, 1, &truth)? {
+        Some(rounds) => Ok(Some(only_flip(&rounds))),
+        None => Ok(None),
+    }
+}
+
 #[test]
 fn a_model_of_the_square_tells_its_flip(rt: HostRuntime) -> Result<(), Fail> {
-    let alloc = rt.alloc();
-    let inst = polygon(alloc, &square())?.expect(&rt, "a square");
     let values = [
         true, true, true, true, false, true, true, false, true, true, true, true, true, false,
     ];
-    let rounds = decoded(&rt, alloc, &inst, 1, &truth_of(alloc, &values)?)?;
-    let flip = only_flip(&rounds.expect(&rt, "a model"));
-    assert!(rt; flip.is_some());
-    assert_eq!(rt; flip, Edge::of(0, 2));
-    let other = truth_of(alloc, &[true, true, true, true, false, true])?;
-    assert!(rt; decoded(&rt, alloc, &inst, 1, &other)?.is_none());
+    let flip = told(&rt, rt.alloc(), &values)?;
+    let none = told(&rt, rt.alloc(), &[true, true, true, true, false, true])?;
+    let wanted = Edge::of(0, 2);
+    assert!(rt; wanted.is_some() && flip == Some(wanted) && none.is_none());
     Ok(())
 }

@@ -1,12 +1,12 @@
 // Pruned formulas of small polygons, the rounds that models of them tell, and the largest formula that is built.
 ghost use Rattle.std.specs.Prelude.{◌<◌, ◌≤◌};
 
-use crate::polygons::{expect_three, hexagon, parabola, pentagon, polygon, square};
+use crate::polygons::{HEXAGON, PENTAGON, SQUARE, expect_three, parabola, polygon};
 use edge_table::{Edge, Rounds};
 use flip_cnf::{BuildFault, Frame};
 use rup_check::Cnf;
 use sat_search::{Answer, solve};
-use std::alloc::{AllocError, Global};
+use std::alloc::Global;
 use std::process::Abort;
 use std::test::Fail;
 use tri_check::Instance;
@@ -53,41 +53,84 @@ fn counts(
     Ok((cnf.vars(), cnf.len(), empties(&cnf)))
 }
 
+// The numbers of variables, of clauses and of empty clauses for an input and a number of rounds are as wanted, or there is none for this fault.
+fn must_have(
+    rt: &impl Abort,
+    alloc: Global,
+    inst: &Instance,
+    to: u32,
+    k: u32,
+    wanted: Result<(u32, u32, u32), BuildFault>,
+) -> Result<(), Fail> {
+    assert!(rt; to < 3 && k <= 400_000);
+    let found = counts(rt, alloc, inst, to, k);
+    if found == wanted {
+        Ok(())
+    } else {
+        Err(Fail::new(format_args!("{found:?} for {k} rounds to {to}, where {wanted:?} is wanted")))
+    }
+}
+
+// For each row the corners, the input that is gone to, the number of rounds, and what is counted.
+const OF_SQUARE: [(&[(i64, i64)], u32, u32, (u32, u32, u32)); 3] = [
+    (&SQUARE, 1, 0, (4, 10, 2)),
+    (&SQUARE, 1, 1, (11, 30, 0)),
+    (&SQUARE, 0, 2, (18, 55, 0)),
+];
+
+const OF_MORE: [(&[(i64, i64)], u32, u32, (u32, u32, u32)); 3] = [
+    (&PENTAGON, 1, 1, (12, 26, 2)),
+    (&PENTAGON, 1, 2, (24, 66, 0)),
+    (&HEXAGON, 1, 2, (28, 59, 0)),
+];
+
+fn must_have_each(
+    rt: &impl Abort,
+    alloc: Global,
+    rows: &[(&[(i64, i64)], u32, u32, (u32, u32, u32))],
+) -> Result<(), Fail> {
+    for row in rows {
+        let inst = polygon(alloc, row.0)?;
+        must_have(rt, alloc, &inst, row.1, row.2, Ok(row.3))?;
+    }
+    Ok(())
+}
+
 #[test]
 fn pruned_formulas_of_a_square(rt: HostRuntime) -> Result<(), Fail> {
-    let inst = polygon(rt.alloc(), &square())?.expect(&rt, "a square");
-    assert_eq!(rt; counts(&rt, rt.alloc(), &inst, 1, 0), Ok((4, 10, 2)));
-    assert_eq!(rt; counts(&rt, rt.alloc(), &inst, 1, 1), Ok((11, 30, 0)));
-    assert_eq!(rt; counts(&rt, rt.alloc(), &inst, 0, 2), Ok((18, 55, 0)));
-    Ok(())
+    must_have_each(&rt, rt.alloc(), &OF_SQUARE)
 }
 
 #[test]
 fn pruned_formulas_of_a_pentagon_and_a_hexagon(rt: HostRuntime) -> Result<(), Fail> {
-    let inst = polygon(rt.alloc(), &pentagon())?.expect(&rt, "a pentagon");
-    assert_eq!(rt; counts(&rt, rt.alloc(), &inst, 1, 1), Ok((12, 26, 2)));
-    assert_eq!(rt; counts(&rt, rt.alloc(), &inst, 1, 2), Ok((24, 66, 0)));
-    let inst = polygon(rt.alloc(), &hexagon())?.expect(&rt, "a hexagon");
-    assert_eq!(rt; counts(&rt, rt.alloc(), &inst, 1, 2), Ok((28, 59, 0)));
-    Ok(())
+    must_have_each(&rt, rt.alloc(), &OF_MORE)
 }
 
 #[test]
 fn the_largest_formula_of_a_square_is_built(rt: HostRuntime) -> Result<(), Fail> {
-    let inst = polygon(rt.alloc(), &square())?.expect(&rt, "a square");
-    let largest = counts(&rt, rt.alloc(), &inst, 0, 10_811);
-    assert_eq!(rt; largest, Ok((86_490, 399_988, 0)));
-    let fault = counts(&rt, rt.alloc(), &inst, 0, 10_812);
-    assert_eq!(rt; fault, Err(BuildFault::TooLarge(400_025)));
-    Ok(())
+    let inst = polygon(rt.alloc(), &SQUARE)?;
+    must_have(&rt, rt.alloc(), &inst, 0, 10_811, Ok((86_490, 399_988, 0)))?;
+    must_have(
+        &rt,
+        rt.alloc(),
+        &inst,
+        0,
+        10_812,
+        Err(BuildFault::TooLarge(400_025)),
+    )
 }
 
 #[test]
 fn sixty_five_points_have_no_pruned_formula(rt: HostRuntime) -> Result<(), Fail> {
-    let inst = parabola(rt.alloc(), 65)?.expect(&rt, "65 points");
-    let fault = counts(&rt, rt.alloc(), &inst, 1, 6);
-    assert_eq!(rt; fault, Err(BuildFault::ManyPoints(65)));
-    Ok(())
+    let inst = parabola(rt.alloc(), 65)?;
+    must_have(
+        &rt,
+        rt.alloc(),
+        &inst,
+        1,
+        6,
+        Err(BuildFault::ManyPoints(65)),
+    )
 }
 
 // What a search of a pruned formula finds: rounds, or that there are none, or neither.
@@ -118,10 +161,6 @@ fn solved(
     }
 }
 
-fn is_refuted(found: &Found) -> bool {
-    matches!(found, Found::Refuted)
-}
-
 // Whether rounds of these edges were found, one in each.
 fn are_flips(found: &Found, edges: &[Option<Edge>]) -> bool {
     let Found::Met(rounds) = found else {
@@ -139,32 +178,65 @@ fn are_flips(found: &Found, edges: &[Option<Edge>]) -> bool {
     true
 }
 
+// A search for so many rounds finds that there are none.
+fn must_refute(rt: &impl Abort, alloc: Global, corners: &[(i64, i64)], k: u32) -> Result<(), Fail>
+    requires { k ≤ 400_000 }
+{
+    let inst = polygon(alloc, corners)?;
+    match solved(rt, alloc, &inst, 1, k)? {
+        Found::Refuted => Ok(()),
+        found => Err(Fail::new(format_args!("{found:?}, where none is wanted"))),
+    }
+}
+
+// A search for as many rounds as there are edges finds rounds of one edge each, which are these.
+fn must_find(
+    rt: &impl Abort,
+    alloc: Global,
+    corners: &[(i64, i64)],
+    k: u32,
+    edges: &[Option<Edge>],
+) -> Result<(), Fail>
+    requires { k ≤ 400_000 }
+{
+    let inst = polygon(alloc, corners)?;
+    let found = solved(rt, alloc, &inst, 1, k)?;
+    if are_flips(&found, edges) {
+        Ok(())
+    } else {
+        Err(Fail::new(format_args!("{found:?}, where {edges:?} is wanted")))
+    }
+}
+
+// A search for two rounds from an input to itself finds some.
+fn must_meet(rt: &impl Abort, alloc: Global, corners: &[(i64, i64)]) -> Result<(), Fail> {
+    let inst = polygon(alloc, corners)?;
+    match solved(rt, alloc, &inst, 0, 2)? {
+        Found::Met(_) => Ok(()),
+        found => Err(Fail::new(format_args!("{found:?}, where rounds are wanted"))),
+    }
+}
+
 #[test]
 fn rounds_of_a_square_are_found(rt: HostRuntime) -> Result<(), Fail> {
-    let inst = polygon(rt.alloc(), &square())?.expect(&rt, "a square");
-    let none = solved(&rt, rt.alloc(), &inst, 1, 0).expect(&rt, "a formula");
-    assert!(rt; is_refuted(&none));
-    let one = solved(&rt, rt.alloc(), &inst, 1, 1).expect(&rt, "a formula");
-    assert!(rt; are_flips(&one, &[Edge::of(0, 2)]));
-    let two = solved(&rt, rt.alloc(), &inst, 0, 2).expect(&rt, "a formula");
-    assert!(rt; matches!(two, Found::Met(_)));
-    Ok(())
+    must_refute(&rt, rt.alloc(), &SQUARE, 0)?;
+    must_find(&rt, rt.alloc(), &SQUARE, 1, &[Edge::of(0, 2)])?;
+    must_meet(&rt, rt.alloc(), &SQUARE)
 }
 
 #[test]
 fn rounds_of_a_pentagon_are_found(rt: HostRuntime) -> Result<(), Fail> {
-    let inst = polygon(rt.alloc(), &pentagon())?.expect(&rt, "a pentagon");
-    let none = solved(&rt, rt.alloc(), &inst, 1, 1).expect(&rt, "a formula");
-    assert!(rt; is_refuted(&none));
-    let two = solved(&rt, rt.alloc(), &inst, 1, 2).expect(&rt, "a formula");
-    assert!(rt; are_flips(&two, &[Edge::of(0, 2), Edge::of(0, 3)]));
-    Ok(())
+    must_refute(&rt, rt.alloc(), &PENTAGON, 1)?;
+    must_find(
+        &rt,
+        rt.alloc(),
+        &PENTAGON,
+        2,
+        &[Edge::of(0, 2), Edge::of(0, 3)],
+    )
 }
 
 #[test]
 fn two_rounds_of_a_hexagon_are_not_found(rt: HostRuntime) -> Result<(), Fail> {
-    let inst = polygon(rt.alloc(), &hexagon())?.expect(&rt, "a hexagon");
-    let none = solved(&rt, rt.alloc(), &inst, 1, 2).expect(&rt, "a formula");
-    assert!(rt; is_refuted(&none));
-    Ok(())
+    must_refute(&rt, rt.alloc(), &HEXAGON, 2)
 }

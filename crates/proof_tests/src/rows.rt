@@ -1,7 +1,7 @@
 // Rows of pairs of fans of small polygons, with each evidence and each end.
 ghost use Rattle.std.specs.Prelude.{◌≡◌, ◌<◌, ◌≤◌, length};
 
-use crate::polygons::{expect_three, hexagon, parabola, pentagon, polygon, square};
+use crate::polygons::{HEXAGON, PENTAGON, SQUARE, expect_three, parabola, polygon};
 use cross_bound::Side;
 use edge_table::Edge;
 use flip_cnf::Frame;
@@ -86,92 +86,121 @@ fn is_refuted(
     }
 }
 
+// Whether it is refuted is as wanted.
+fn must_refute(
+    rt: &impl Abort,
+    alloc: Global,
+    corners: &[(i64, i64)],
+    k: u32,
+    wanted: bool,
+) -> Result<(), Fail>
+    requires { k ≤ 9 }
+{
+    let inst = polygon(alloc, corners)?;
+    let found = is_refuted(rt, alloc, &inst, k)?;
+    if found == Some(wanted) {
+        Ok(())
+    } else {
+        Err(Fail::new(format_args!("{found:?} for {k} rounds")))
+    }
+}
+
+// The row of the first input of a polygon and another one.
+fn row_of(
+    rt: &impl Abort,
+    alloc: Global,
+    corners: &[(i64, i64)],
+    j: u32,
+    budget: u64,
+) -> Result<Row, Fail>
+    requires first { 0 < j }
+    requires second { j < 3 }
+    requires budget { budget ≤ 1_000_000 }
+{
+    let inst = polygon(alloc, corners)?;
+    Ok(row(rt, alloc, &inst, j, budget)?)
+}
+
+// The row of the first two inputs of so many points of a parabola.
+fn row_of_many(rt: &impl Abort, alloc: Global, count: u32, budget: u64) -> Result<Row, Fail>
+    requires budget { budget ≤ 1_000_000 }
+{
+    let inst = parabola(alloc, count)?;
+    Ok(row(rt, alloc, &inst, 1, budget)?)
+}
+
 #[test]
 fn formulas_of_too_few_rounds_are_refuted(rt: HostRuntime) -> Result<(), Fail> {
-    let four = polygon(rt.alloc(), &square())?.expect(&rt, "a square");
-    assert_eq!(rt; is_refuted(&rt, rt.alloc(), &four, 0)?, Some(true));
-    assert_eq!(rt; is_refuted(&rt, rt.alloc(), &four, 1)?, Some(false));
-    let five = polygon(rt.alloc(), &pentagon())?.expect(&rt, "a pentagon");
-    assert_eq!(rt; is_refuted(&rt, rt.alloc(), &five, 1)?, Some(true));
-    assert_eq!(rt; is_refuted(&rt, rt.alloc(), &five, 2)?, Some(false));
-    Ok(())
+    must_refute(&rt, rt.alloc(), &SQUARE, 0, true)?;
+    must_refute(&rt, rt.alloc(), &SQUARE, 1, false)?;
+    must_refute(&rt, rt.alloc(), &PENTAGON, 1, true)?;
+    must_refute(&rt, rt.alloc(), &PENTAGON, 2, false)
+}
+
+// Whether the row is of input 0 and input 2, which are no rounds apart, with no evidence.
+fn is_of_equals(row: &Row) -> bool {
+    let is_bare = matches!(row.evidence, Evidence::Nothing);
+    is_bare && (row.i, row.j, row.lower, met(row)) == (0, 2, 0, Some(0))
 }
 
 #[test]
 fn equal_inputs_are_no_rounds_apart(rt: HostRuntime) -> Result<(), Fail> {
-    let inst = polygon(rt.alloc(), &square())?.expect(&rt, "a square");
-    let row = row(&rt, rt.alloc(), &inst, 2, 50_000)?;
-    assert_eq!(rt; (row.i, row.j, row.lower, met(&row)), (0, 2, 0, Some(0)));
-    assert!(rt; matches!(row.evidence, Evidence::Nothing));
+    let row = row_of(&rt, rt.alloc(), &SQUARE, 2, 50_000)?;
+    assert!(rt; is_of_equals(&row));
     Ok(())
 }
 
 #[test]
 fn the_diagonals_of_a_square_are_one_round_apart(rt: HostRuntime) -> Result<(), Fail> {
-    let inst = polygon(rt.alloc(), &square())?.expect(&rt, "a square");
-    let row = row(&rt, rt.alloc(), &inst, 1, 50_000)?;
-    assert!(rt; crosses(&rt, &row, 1, 1, 1));
-    assert_eq!(rt; met(&row), Some(1));
+    let row = row_of(&rt, rt.alloc(), &SQUARE, 1, 50_000)?;
+    assert!(rt; crosses(&rt, &row, 1, 1, 1) && met(&row) == Some(1));
     Ok(())
 }
 
 #[test]
 fn the_fans_of_a_pentagon_are_two_rounds_apart(rt: HostRuntime) -> Result<(), Fail> {
-    let inst = polygon(rt.alloc(), &pentagon())?.expect(&rt, "a pentagon");
-    let row = row(&rt, rt.alloc(), &inst, 1, 50_000)?;
-    assert!(rt; crosses(&rt, &row, 1, 2, 2));
-    assert_eq!(rt; met(&row), Some(2));
+    let row = row_of(&rt, rt.alloc(), &PENTAGON, 1, 50_000)?;
+    assert!(rt; crosses(&rt, &row, 1, 2, 2) && met(&row) == Some(2));
     Ok(())
+}
+
+// Whether the row has the lower bound 3, by a log with lines that refutes two rounds, and three rounds.
+fn is_of_three(row: &Row) -> bool {
+    (row.lower, refuted(row), met(row)) == (3, Some((2, true)), Some(3))
 }
 
 #[test]
 fn the_fans_of_a_hexagon_are_three_rounds_apart(rt: HostRuntime) -> Result<(), Fail> {
-    let inst = polygon(rt.alloc(), &hexagon())?.expect(&rt, "a hexagon");
-    let row = row(&rt, rt.alloc(), &inst, 1, 50_000)?;
-    assert_eq!(rt;
-        (row.lower, refuted(&row), met(&row)),
-        (3, Some((2, true)), Some(3))
-    );
+    let row = row_of(&rt, rt.alloc(), &HEXAGON, 1, 50_000)?;
     let copy = row.copy()?;
-    assert_eq!(rt;
-        (copy.lower, refuted(&copy), met(&copy)),
-        (3, Some((2, true)), Some(3))
-    );
+    assert!(rt; is_of_three(&row) && is_of_three(&copy));
     Ok(())
 }
 
 #[test]
 fn a_small_budget_is_spent_on_a_hexagon(rt: HostRuntime) -> Result<(), Fail> {
-    let inst = polygon(rt.alloc(), &hexagon())?.expect(&rt, "a hexagon");
-    let row = row(&rt, rt.alloc(), &inst, 1, 1)?;
-    assert!(rt; crosses(&rt, &row, 1, 2, 3));
-    assert_eq!(rt; spent(&row), Some((2, 1)));
+    let row = row_of(&rt, rt.alloc(), &HEXAGON, 1, 1)?;
+    assert!(rt; crosses(&rt, &row, 1, 2, 3) && spent(&row) == Some((2, 1)));
     Ok(())
 }
 
 #[test]
 fn a_small_budget_is_spent_on_twenty_points(rt: HostRuntime) -> Result<(), Fail> {
-    let inst = parabola(rt.alloc(), 20)?.expect(&rt, "20 points");
-    let row = row(&rt, rt.alloc(), &inst, 1, 1)?;
-    assert!(rt; crosses(&rt, &row, 1, 5, 17));
-    assert_eq!(rt; spent(&row), Some((5, 1)));
+    let row = row_of_many(&rt, rt.alloc(), 20, 1)?;
+    assert!(rt; crosses(&rt, &row, 1, 5, 17) && spent(&row) == Some((5, 1)));
     Ok(())
 }
 
 #[test]
 fn a_small_budget_is_spent_on_sixty_four_points(rt: HostRuntime) -> Result<(), Fail> {
-    let inst = parabola(rt.alloc(), 64)?.expect(&rt, "64 points");
-    let row = row(&rt, rt.alloc(), &inst, 1, 1)?;
-    assert!(rt; crosses(&rt, &row, 1, 6, 61));
-    assert_eq!(rt; spent(&row), Some((6, 1)));
+    let row = row_of_many(&rt, rt.alloc(), 64, 1)?;
+    assert!(rt; crosses(&rt, &row, 1, 6, 61) && spent(&row) == Some((6, 1)));
     Ok(())
 }
 
 #[test]
 fn sixty_five_points_have_no_formula(rt: HostRuntime) -> Result<(), Fail> {
-    let inst = parabola(rt.alloc(), 65)?.expect(&rt, "65 points");
-    let row = row(&rt, rt.alloc(), &inst, 1, 50_000)?;
-    assert!(rt; crosses(&rt, &row, 1, 6, 62));
-    assert!(rt; matches!(row.end, End::ManyPoints(65)));
+    let row = row_of_many(&rt, rt.alloc(), 65, 50_000)?;
+    assert!(rt; crosses(&rt, &row, 1, 6, 62) && matches!(row.end, End::ManyPoints(65)));
     Ok(())
 }

@@ -2,7 +2,7 @@ use Rattle.std.proofs.Common.{subst}
 use Rattle.tri_check.specs.Problems.{Problem}
 use Rattle.lawson_start.specs.Starts.{IsStart}
 use Rattle.plan_moves.proofs.Openings.{tracks_lead}
-use Rattle.plan_tests.proofs.swaps.opening.Goals as goal
+use Rattle.plan_tests.proofs.openings.opening.Goals as goal
 
 pub opening-requires-clause-tracks : goal.opening-requires-clause-tracks
 opening-requires-clause-tracks c =

@@ -3,7 +3,7 @@ use Rattle.std.specs.List.{AllZip}
 use Rattle.tri_check.specs.Problems.{Problem}
 use Rattle.plan_core.specs.HeldPlans.{LeadsTo}
 use Rattle.plan_moves.proofs.Lowered.{alone}
-use Rattle.plan_tests.proofs.settling.opened.Goals as goal
+use Rattle.plan_tests.proofs.openings.opened.Goals as goal
 
 pub opening-requires-clause-tracks : goal.opening-requires-clause-tracks
 opening-requires-clause-tracks g c =
